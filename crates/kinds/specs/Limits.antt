@@ -1,0 +1,15 @@
+-- The three limits of document 01, each written here once. Every definition takes its limits as arguments;
+-- only the services put these numbers in.
+use Prim.Native.Nat.{ℕ}
+
+-- the bytes of a token, both braces among them
+abbrev pub tokenLimit : ℕ
+tokenLimit = 64
+
+-- the cells of a plan
+abbrev pub cellLimit : ℕ
+cellLimit = 4096
+
+-- the bytes of a text
+abbrev pub textLimit : ℕ
+textLimit = 1048576

@@ -1,0 +1,99 @@
+-- Reading a text: the plan, each item labelled with the place of its first byte, or the refusal. Document 01, the table
+-- of bytes and refusals 13 to 17.
+use Prim.Native.Nat.{ℕ, zero, suc, _+_}
+use mathlib.Core.Bool.{cond}
+use mathlib.Core.Option.{Option, none, some}
+use mathlib.Core.List.{List, [], _∷_}
+use lib.ListN.{length, getD}
+use lib.Dec.{leb, eqb}
+use Rattle.kinds.specs.declared.Place.{Place}
+use Rattle.plan.specs.declared.Refusal.{Refusal}
+use Rattle.plan.specs.declared.Refusal.the-variants.{BadByte, BadToken, Unmatched, Unclosed, Overfull}
+use Rattle.plan.specs.Plan.{
+  Operator,
+  op-a,
+  op-b,
+  op-c,
+  op-d,
+  Plan,
+  end,
+  operator,
+  token,
+  block,
+  _then_,
+  cells,
+  labels,
+  open-bracket,
+  close-bracket,
+  open-brace,
+}
+use Rattle.plan.specs.Token.{token-text}
+
+abbrev pub place : ℕ → Place
+place n = record { 0 = n }
+
+-- the class of a byte outside tokens
+pub data Class : Type 0 where
+  OPERATOR : Operator → Class
+  OPEN CLOSE BRACE BLANK BAD : Class
+
+unfoldable pub class : ℕ → Class
+class b =
+    cond (eqb b 97) (OPERATOR op-a)
+    (cond (eqb b 98) (OPERATOR op-b)
+    (cond (eqb b 99) (OPERATOR op-c)
+    (cond (eqb b 100) (OPERATOR op-d)
+    (cond (eqb b open-bracket) OPEN
+    (cond (eqb b close-bracket) CLOSE
+    (cond (eqb b open-brace) BRACE
+    (cond (eqb b 32) BLANK
+    (cond (eqb b 10) BLANK BAD))))))))
+
+-- The blocks that are open where the reader stands, the innermost first: each with its place and with what stands
+-- before it in its own sequence.
+pub data Around : Type 0 where
+  outermost : Around
+  inside : ℕ → Plan ℕ → Around → Around
+
+-- what one byte makes of the reader: a refusal, or what is open, the sequence so far, and how many of the bytes that
+-- come next belong to a token already read
+pub data Move : Type 0 where
+  STOP : Refusal → Move
+  ON : Around → Plan ℕ → ℕ → Move
+
+unfoldable pub past-token : (at : ℕ) → Option (List ℕ) → Around → Plan ℕ → Move
+past-token at none out here = STOP (BadToken (place at))
+past-token at (some t) out here = ON out (here then token at t end) (length t + 1)
+
+unfoldable pub move : (limit at : ℕ) → Class → List ℕ → Around → Plan ℕ → Move
+move limit at (OPERATOR o) rest out here = ON out (here then operator at o end) 0
+move limit at OPEN rest out here = ON (inside at here out) end 0
+move limit at CLOSE rest outermost here = STOP (Unmatched (place at))
+move limit at CLOSE rest (inside l before out) here = ON out (before then block l here end) 0
+move limit at BRACE rest out here = past-token at (token-text limit rest) out here
+move limit at BLANK rest out here = ON out here 0
+move limit at BAD rest out here = STOP (BadByte (place at))
+
+pub data Reading : Type 0 where
+  PLAN : Plan ℕ → Reading
+  REFUSED : Refusal → Reading
+
+unfoldable pub go-on : Move → (Around → Plan ℕ → ℕ → Reading) → Reading
+go-on (STOP r) after = REFUSED r
+go-on (ON out here skip) after = after out here skip
+
+-- reading from the place `at` on
+unfoldable pub read-from : (limit at skip : ℕ) → Around → Plan ℕ → List ℕ → Reading
+read-from limit at skip outermost here [] = PLAN here
+read-from limit at skip (inside l before out) here [] = REFUSED (Unclosed (place at))
+read-from limit at (suc skip) out here (b ∷ bs) = read-from limit (suc at) skip out here bs
+read-from limit at zero out here (b ∷ bs) =
+    go-on (move limit at (class b) bs out here) (λ out′ here′ skip. read-from limit (suc at) skip out′ here′ bs)
+
+-- a plan of more than n cells is refused at item number n, items counted from 0 by their first bytes
+unfoldable pub fit : (n : ℕ) → Reading → Reading
+fit n (REFUSED r) = REFUSED r
+fit n (PLAN p) = cond (leb (cells p) n) (PLAN p) (REFUSED (Overfull (place (getD (labels p) n 0))))
+
+unfoldable pub read : (limit n : ℕ) → List ℕ → Reading
+read limit n text = fit n (read-from limit 0 0 outermost end text)

@@ -1,0 +1,34 @@
+-- A run with a quota and n cells: document 01, "RUN rewrites step by step".
+use Prim.Native.Nat.{ℕ, zero, suc}
+use mathlib.Core.Bool.{cond}
+use mathlib.Core.Option.{Option, none, some}
+use lib.Dec.{leb}
+use Rattle.plan.specs.declared.Ending.{Ending}
+use Rattle.plan.specs.declared.Ending.the-variants.{Done, Quota, Full}
+use Rattle.plan.specs.Plan.{Plan, cells}
+use Rattle.plan.specs.Rewriting.{next}
+
+-- what is asked before a step, but for the quota: the run ends, or goes on with the next plan
+pub data Turn (L : Type 0) : Type 0 where
+  STOP : Ending → Turn L
+  GO : Plan L → Turn L
+
+unfoldable pub ask : {L : Type 0} → (n : ℕ) → Option (Plan L) → Turn L
+ask n none = STOP Done
+ask n (some q) = cond (leb (cells q) n) (GO q) (STOP Full)
+
+-- how a run ended, the rewrites it made and the plan they led to
+pub data Ran (L : Type 0) : Type 0 where
+  RAN : Ending → (steps : ℕ) → Plan L → Ran L
+
+unfoldable pub turn : {L : Type 0} → Turn L → Plan L → (Plan L → Ran L) → Ran L
+turn (STOP e) p after = RAN e 0 p
+turn (GO q) p after = after q
+
+unfoldable pub one-more : {L : Type 0} → Ran L → Ran L
+one-more (RAN e steps p) = RAN e (suc steps) p
+
+-- Before each step: no ready operator, Done; the next result has more than n cells, Full; the quota is used up, Quota.
+unfoldable pub run-plan : {L : Type 0} → (n quota : ℕ) → Plan L → Ran L
+run-plan n zero p = turn (ask n (next p)) p (λ q. RAN Quota 0 p)
+run-plan n (suc quota) p = turn (ask n (next p)) p (λ q. one-more (run-plan n quota q))

@@ -1,0 +1,133 @@
+// What the services answer. The definitions in specs/ speak of these types, so that a promise is one equation.
+ghost use mathlib.Core.Path.{_≡_};
+ghost use Rattle.plan.specs.Services.{ending-number, refusal-number, refusal-place, numbers};
+use kinds::Place;
+
+// A character of UTF-8, or bytes that begin none.
+pub enum Character {
+    Whole { value: u32, width: u32 },
+    Malformed,
+}
+
+// How an unrefused run ends.
+pub enum Ending {
+    Done,
+    Quota,
+    Full,
+}
+
+// Why a call is refused, with the place that goes with it.
+pub enum Refusal {
+    TooLong,
+    BadArena,
+    BadByte(Place),
+    BadToken(Place),
+    Unmatched(Place),
+    Unclosed(Place),
+    Overfull(Place),
+    // The bytes needed.
+    OutShort(u32),
+}
+
+// A refusal carries no steps, no cells and no length: it has none.
+pub enum Answer {
+    Ran {
+        ending: Ending,
+        steps: u32,
+        cells: u32,
+        length: u32,
+    },
+    Read {
+        cells: u32,
+        length: u32,
+    },
+    Refused(Refusal),
+}
+
+// The five numbers of an answer.
+pub struct Numbers {
+    pub number: u32,
+    pub steps: u32,
+    pub cells: u32,
+    pub length: u32,
+    pub place: u32,
+}
+
+impl Ending {
+    pub fn number(self) -> u32
+        ensures { λ r. ⌜ r ≡ ending-number self ⌝ }
+    {
+        match self {
+            Ending::Done => 0,
+            Ending::Quota => 1,
+            Ending::Full => 2,
+        }
+    }
+}
+
+impl Refusal {
+    pub fn number(self) -> u32
+        ensures { λ r. ⌜ r ≡ refusal-number self ⌝ }
+    {
+        match self {
+            Refusal::TooLong => 11,
+            Refusal::BadArena => 12,
+            Refusal::BadByte(_) => 13,
+            Refusal::BadToken(_) => 14,
+            Refusal::Unmatched(_) => 15,
+            Refusal::Unclosed(_) => 16,
+            Refusal::Overfull(_) => 17,
+            Refusal::OutShort(_) => 18,
+        }
+    }
+
+    pub fn place(self) -> u32
+        ensures { λ r. ⌜ r ≡ refusal-place self ⌝ }
+    {
+        match self {
+            Refusal::TooLong => 0,
+            Refusal::BadArena => 0,
+            Refusal::BadByte(at) => at.0,
+            Refusal::BadToken(at) => at.0,
+            Refusal::Unmatched(at) => at.0,
+            Refusal::Unclosed(at) => at.0,
+            Refusal::Overfull(at) => at.0,
+            Refusal::OutShort(needed) => needed,
+        }
+    }
+}
+
+impl Answer {
+    pub fn numbers(self) -> Numbers
+        ensures { λ r. ⌜ r ≡ numbers self ⌝ }
+    {
+        match self {
+            Answer::Ran {
+                ending,
+                steps,
+                cells,
+                length,
+            } => Numbers {
+                number: ending.number(),
+                steps,
+                cells,
+                length,
+                place: 0,
+            },
+            Answer::Read { cells, length } => Numbers {
+                number: 3,
+                steps: 0,
+                cells,
+                length,
+                place: 0,
+            },
+            Answer::Refused(refusal) => Numbers {
+                number: refusal.number(),
+                steps: 0,
+                cells: 0,
+                length: 0,
+                place: refusal.place(),
+            },
+        }
+    }
+}
