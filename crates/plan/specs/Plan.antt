@@ -2,6 +2,7 @@
 -- A sequence of items is the spine of the one type, so that every definition goes by plain recursion.
 use Prim.Native.Nat.{ℕ, _+_}
 use mathlib.Core.List.{List, [], _∷_, _++_}
+use mathlib.Core.Logic.{_≢_}
 
 pub data Operator : Type 0 where
   op-a op-b op-c op-d : Operator
@@ -71,3 +72,10 @@ relabel f (block l b p) = block (f l) (relabel f b) (relabel f p)
 
 abbrev pub bare : {L : Type 0} → Plan L → Plan (Unit {0})
 bare p = relabel (λ l. tt) p
+
+-- a plan without operator c, at any depth
+abbrev pub WithoutC : {L : Type 0} → Plan L → Type 0
+WithoutC end = Unit {0}
+WithoutC (operator l o p) = (o ≢ op-c) × WithoutC p
+WithoutC (token l t p) = WithoutC p
+WithoutC (block l b p) = WithoutC b × WithoutC p

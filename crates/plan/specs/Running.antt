@@ -1,5 +1,6 @@
 -- A run with a quota and n cells: document 01, "RUN rewrites step by step".
 use Prim.Native.Nat.{ℕ, zero, suc}
+use mathlib.Core.Path.{_≡_}
 use mathlib.Core.Bool.{cond}
 use mathlib.Core.Option.{Option, none, some}
 use lib.Dec.{leb}
@@ -32,3 +33,8 @@ one-more (RAN e steps p) = RAN e (suc steps) p
 unfoldable pub run-plan : {L : Type 0} → (n quota : ℕ) → Plan L → Ran L
 run-plan n zero p = turn (ask n (next p)) p (λ q. RAN Quota 0 p)
 run-plan n (suc quota) p = turn (ask n (next p)) p (λ q. one-more (run-plan n quota q))
+
+-- q is what so many rewrites in the fixed order make of p
+abbrev pub Leads : {L : Type 0} → (steps : ℕ) → Plan L → Plan L → Type 0
+Leads zero p q = p ≡ q
+Leads {L} (suc steps) p q = (r : Plan L) × (next p ≡ some r) × Leads steps r q

@@ -1,5 +1,6 @@
 -- What a token may hold: document 01, "A token runs from `{` ..". Characters are those of RFC 3629, section 3.
 use Prim.Native.Nat.{ℕ, zero, suc, _+_, _*_, _-_}
+use mathlib.Core.Path.{_≡_}
 use mathlib.Core.Bool.{Bool, true, false, cond, not, _&&_, _||_}
 use mathlib.Core.Option.{Option, none, some}
 use mathlib.Core.List.{List, [], _∷_}
@@ -7,7 +8,7 @@ use lib.ListN.{length}
 use lib.Dec.{leb, ltb, eqb}
 use Rattle.plan.specs.declared.Character.{Character}
 use Rattle.plan.specs.declared.Character.the-variants.{Whole, Malformed}
-use Rattle.plan.specs.Plan.{open-brace, close-brace}
+use Rattle.plan.specs.Plan.{Plan, end, operator, token, block, open-brace, close-brace}
 
 -- A byte 10xxxxxx follows another in a character, and adds six bits to its value.
 unfoldable pub follows : ℕ → Bool
@@ -73,3 +74,10 @@ if-allowed limit (some t) = cond (allowed limit t) (some t) none
 -- the token that a `{` opens, if the bytes after it are those of an allowed one
 unfoldable pub token-text : (limit : ℕ) → List ℕ → Option (List ℕ)
 token-text limit bs = if-allowed limit (before-brace bs)
+
+-- a plan whose tokens are allowed, at any depth
+abbrev pub Allowed : {L : Type 0} → (limit : ℕ) → Plan L → Type 0
+Allowed limit end = Unit {0}
+Allowed limit (operator l o p) = Allowed limit p
+Allowed limit (token l t p) = (allowed limit t ≡ true) × Allowed limit p
+Allowed limit (block l b p) = Allowed limit b × Allowed limit p

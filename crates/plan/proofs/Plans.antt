@@ -1,0 +1,84 @@
+-- Laws of a plan's parts: joining, cells, the printed text, labels.
+use Prim.Native.Nat.{ℕ, zero, suc, _+_}
+use mathlib.Core.Path.{_≡_, refl, ap}
+use mathlib.Core.List.{List, [], _∷_, _++_, append-assoc}
+use native.Mathlib.Omega.{arith}
+use lib.ListN.{length, length-append}
+use Rattle.plan.specs.Plan.{
+  Plan,
+  end,
+  operator,
+  token,
+  block,
+  _then_,
+  cells,
+  letter,
+  print,
+  labels,
+  relabel,
+  bare,
+  open-bracket,
+  close-bracket,
+  open-brace,
+  close-brace,
+}
+
+module _ {L : Type 0} where
+  pub then-end : (p : Plan L) → p then end ≡ p
+  unfolding _then_
+  then-end end = refl
+  then-end (operator l o p) = ap (operator l o) (then-end p)
+  then-end (token l t p) = ap (token l t) (then-end p)
+  then-end (block l b p) = ap (block l b) (then-end p)
+
+  pub then-assoc : (p q r : Plan L) → (p then q) then r ≡ p then (q then r)
+  unfolding _then_
+  then-assoc end q r = refl
+  then-assoc (operator l o p) q r = ap (operator l o) (then-assoc p q r)
+  then-assoc (token l t p) q r = ap (token l t) (then-assoc p q r)
+  then-assoc (block l b p) q r = ap (block l b) (then-assoc p q r)
+
+  pub cells-then : (p q : Plan L) → cells (p then q) ≡ cells p + cells q
+  unfolding _then_ cells
+  cells-then end q = omega arith
+  cells-then (operator l o p) q = omega (arith, cells-then p q)
+  cells-then (token l t p) q = omega (arith, cells-then p q)
+  cells-then (block l b p) q = omega (arith, cells-then p q)
+
+  pub print-then : (p q : Plan L) → print (p then q) ≡ print p ++ print q
+  unfolding _then_ print
+  print-then end q = refl
+  print-then (operator l o p) q = ap (letter o ∷_) (print-then p q)
+  print-then (token l t p) q = rw (print-then p q, append-assoc)
+  print-then (block l b p) q = rw (print-then p q, append-assoc)
+
+  -- as many labels as cells
+  pub length-labels : (p : Plan L) → length (labels p) ≡ cells p
+  unfolding labels cells
+  length-labels end = refl
+  length-labels (operator l o p) = omega (arith, length-labels p)
+  length-labels (token l t p) = omega (arith, length-labels p)
+  length-labels (block l b p) = omega (arith, length-labels b, length-labels p, length-append (labels b) (labels p))
+
+-- no definition of a plan's parts looks at a label
+module _ {L M : Type 0} (f : L → M) where
+  pub relabel-then : (p q : Plan L) → relabel f (p then q) ≡ relabel f p then relabel f q
+  unfolding _then_ relabel
+  relabel-then end q = refl
+  relabel-then (operator l o p) q = ap (operator (f l) o) (relabel-then p q)
+  relabel-then (token l t p) q = ap (token (f l) t) (relabel-then p q)
+  relabel-then (block l b p) q = ap (block (f l) (relabel f b)) (relabel-then p q)
+
+  pub cells-relabel : (p : Plan L) → cells (relabel f p) ≡ cells p
+  unfolding cells relabel
+  cells-relabel end = refl
+  cells-relabel (operator l o p) = omega (arith, cells-relabel p)
+  cells-relabel (token l t p) = omega (arith, cells-relabel p)
+  cells-relabel (block l b p) = omega (arith, cells-relabel b, cells-relabel p)
+
+  pub print-relabel : (p : Plan L) → print (relabel f p) ≡ print p
+  unfolding print relabel
+  print-relabel end = refl
+  print-relabel (operator l o p) = ap (letter o ∷_) (print-relabel p)
+  print-relabel (token l t p) = rw (print-relabel p)
+  print-relabel (block l b p) = rw (print-relabel b, print-relabel p)
