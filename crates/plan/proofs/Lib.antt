@@ -1,2 +1,12 @@
+pub mod Classes
+pub mod Options
 pub mod Plans
+pub mod Reached
+pub mod ReadBack
+pub mod Refusals
+pub mod Rewrites
+pub mod Runs
+pub mod Tests
+pub mod Tokens
+pub mod Utf8
 pub mod Worked

@@ -22,6 +22,7 @@ use Rattle.plan.specs.Plan.{
   open-brace,
   close-brace,
 }
+use Rattle.plan.specs.Token.{Allowed}
 
 module _ {L : Type 0} where
   pub then-end : (p : Plan L) → p then end ≡ p
@@ -51,6 +52,20 @@ module _ {L : Type 0} where
   print-then (operator l o p) q = ap (letter o ∷_) (print-then p q)
   print-then (token l t p) q = rw (print-then p q, append-assoc)
   print-then (block l b p) q = rw (print-then p q, append-assoc)
+
+  pub labels-then : (p q : Plan L) → labels (p then q) ≡ labels p ++ labels q
+  unfolding _then_ labels
+  labels-then end q = refl
+  labels-then (operator l o p) q = ap (l ∷_) (labels-then p q)
+  labels-then (token l t p) q = ap (l ∷_) (labels-then p q)
+  labels-then (block l b p) q = rw (labels-then p q, append-assoc)
+
+  pub allowed-then : (limit : ℕ) (p q : Plan L) → Allowed limit p → Allowed limit q → Allowed limit (p then q)
+  unfolding _then_
+  allowed-then limit end q h g = g
+  allowed-then limit (operator l o p) q h g = allowed-then limit p q h g
+  allowed-then limit (token l t p) q h g = (h .0, allowed-then limit p q (h .1) g)
+  allowed-then limit (block l b p) q h g = (h .0, allowed-then limit p q (h .1) g)
 
   -- as many labels as cells
   pub length-labels : (p : Plan L) → length (labels p) ≡ cells p

@@ -7,7 +7,8 @@ use Rattle.plan.specs.declared.Numbers.{Numbers}
 use Rattle.plan.specs.Plan.{_then_, cells, labels, letter, print}
 use Rattle.plan.specs.Token.{all-permitted, allowed, before-brace, character, if-allowed, may-hold, permits, token-text}
 use Rattle.plan.specs.Reading.{class, fit, go-on, move, past-token, read, read-from}
-use Rattle.plan.specs.Rewriting.{_else_, after-two, first-block, inner, next, outer, under}
+use Rattle.plan.specs.Options.{_else_, under}
+use Rattle.plan.specs.Rewriting.{after-two, first-block, inner, next, outer}
 use Rattle.plan.specs.Running.{ask, one-more, run-plan, turn}
 use Rattle.plan.specs.Services.{
   Written,

@@ -1,6 +1,9 @@
+pub mod Options
 pub mod Plan
 pub mod Reading
+pub mod Refusals
 pub mod Rewriting
+pub mod Rfc3629
 pub mod Running
 pub mod Services
 pub mod Slots

@@ -1,7 +1,7 @@
 -- Reading a text: the plan, each item labelled with the place of its first byte, or the refusal. Document 01, the table
 -- of bytes and refusals 13 to 17.
-use Prim.Native.Nat.{ℕ, zero, suc, _+_}
-use mathlib.Core.Bool.{cond}
+use Prim.Native.Nat.{ℕ, zero, suc}
+use mathlib.Core.Bool.{Bool, true, false, cond, not, _||_}
 use mathlib.Core.Option.{Option, none, some}
 use mathlib.Core.List.{List, [], _∷_}
 use lib.ListN.{length, getD}
@@ -26,6 +26,7 @@ use Rattle.plan.specs.Plan.{
   open-bracket,
   close-bracket,
   open-brace,
+  close-brace,
 }
 use Rattle.plan.specs.Token.{token-text}
 
@@ -63,7 +64,7 @@ pub data Move : Type 0 where
 
 unfoldable pub past-token : (at : ℕ) → Option (List ℕ) → Around → Plan ℕ → Move
 past-token at none out here = STOP (BadToken (place at))
-past-token at (some t) out here = ON out (here then token at t end) (length t + 1)
+past-token at (some t) out here = ON out (here then token at t end) (suc (length t))
 
 unfoldable pub move : (limit at : ℕ) → Class → List ℕ → Around → Plan ℕ → Move
 move limit at (OPERATOR o) rest out here = ON out (here then operator at o end) 0
@@ -97,3 +98,12 @@ fit n (PLAN p) = cond (leb (cells p) n) (PLAN p) (REFUSED (Overfull (place (getD
 
 unfoldable pub read : (limit n : ℕ) → List ℕ → Reading
 read limit n text = fit n (read-from limit 0 0 outermost end text)
+
+-- the text with SP and LF outside tokens taken out
+unfoldable pub without-blanks : (in-token : Bool) → List ℕ → List ℕ
+without-blanks in-token [] = []
+without-blanks true (b ∷ bs) = b ∷ without-blanks (not (eqb b close-brace)) bs
+without-blanks false (b ∷ bs) =
+    let rest = without-blanks false bs in
+    let kept = b ∷ without-blanks (eqb b open-brace) bs in
+    cond (eqb b 32 || eqb b 10) rest kept

@@ -2,6 +2,7 @@
 use mathlib.Core.List.{List}
 use mathlib.Core.Option.{Option, none, some}
 use Prim.Native.Nat.{ℕ}
+use Rattle.plan.specs.Options.{_else_, under}
 use Rattle.plan.specs.Plan.{Operator, op-a, op-b, op-c, op-d, Plan, end, operator, token, block, _then_}
 
 -- `p ⟶ q`: q is p with one ready operator, anywhere in p, rewritten. A copy keeps its labels; after b the outer block
@@ -36,15 +37,6 @@ first-block l A (operator n op-c p) = some (block l A (block l A p))
 first-block l A (operator n op-d p) = some p
 first-block l A (token n t p) = none
 first-block l A (block m B p) = after-two l A m B p
-
-infixr 25 _else_
-unfoldable pub _else_ : {A : Type 0} → Option A → Option A → Option A
-none else y = y
-some x else y = some x
-
-unfoldable pub under : {A B : Type 0} → (A → B) → Option A → Option B
-under f none = none
-under f (some x) = some (f x)
 
 -- The leftmost ready operator of the sequence itself, rewritten. One whose first block is the first item stands left of
 -- every other that is ready.

@@ -8,6 +8,7 @@ use lib.ListN.{length}
 use lib.Dec.{leb, ltb, eqb}
 use Rattle.plan.specs.declared.Character.{Character}
 use Rattle.plan.specs.declared.Character.the-variants.{Whole, Malformed}
+use Rattle.plan.specs.Options.{under}
 use Rattle.plan.specs.Plan.{Plan, end, operator, token, block, open-brace, close-brace}
 
 -- A byte 10xxxxxx follows another in a character, and adds six bits to its value.
@@ -61,11 +62,7 @@ allowed limit t = leb 1 (length t) && (leb (length t + 2) limit && all-permitted
 -- the bytes before the first `}`
 unfoldable pub before-brace : List ℕ → Option (List ℕ)
 before-brace [] = none
-before-brace (b ∷ bs) = let r = longer b (before-brace bs) in cond (eqb b close-brace) (some []) r
-  where
-    longer : ℕ → Option (List ℕ) → Option (List ℕ)
-    longer b none = none
-    longer b (some t) = some (b ∷ t)
+before-brace (b ∷ bs) = let r = under (b ∷_) (before-brace bs) in cond (eqb b close-brace) (some []) r
 
 unfoldable pub if-allowed : (limit : ℕ) → Option (List ℕ) → Option (List ℕ)
 if-allowed limit none = none

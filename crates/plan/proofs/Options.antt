@@ -1,0 +1,53 @@
+-- Laws of what may be missing.
+use mathlib.Core.Path.{_≡_, refl, ap}
+use mathlib.Core.Logic.{_⊎_, ⊎-elim}
+use mathlib.Core.Option.{Option, none, some, IsSome}
+use Rattle.plan.specs.Options.{_else_, under}
+
+-- what holds of the value, if there is one
+abbrev pub Each : {A : Type 0} → (A → Type 0) → Option A → Type 0
+Each P none = Unit {0}
+Each P (some x) = P x
+
+module _ {A : Type 0} where
+  pub else-each : (P : A → Type 0) (x y : Option A) → Each P x → Each P y → Each P (x else y)
+  unfolding _else_
+  else-each P none y h k = k
+  else-each P (some a) y h k = h
+
+  pub else-left : (x y : Option A) → IsSome x → IsSome (x else y)
+  unfolding _else_
+  else-left none y h = absurd h
+  else-left (some a) y h = tt
+
+  pub else-right : (x y : Option A) → IsSome y → IsSome (x else y)
+  unfolding _else_
+  else-right none y h = h
+  else-right (some a) y h = tt
+
+  pub else-either : (x y : Option A) → IsSome x ⊎ IsSome y → IsSome (x else y)
+  else-either x y = ⊎-elim (else-left x y) (else-right x y)
+
+module _ {A B : Type 0} (f : A → B) where
+  pub under-each : (P : A → Type 0) (Q : B → Type 0) → ((a : A) → P a → Q (f a)) → (x : Option A) → Each P x →
+      Each Q (under f x)
+  unfolding under
+  under-each P Q up none h = tt
+  under-each P Q up (some a) h = up a h
+
+  pub under-is-some : (x : Option A) → IsSome x → IsSome (under f x)
+  unfolding under
+  under-is-some none h = h
+  under-is-some (some a) h = tt
+
+  pub under-else : (x y : Option A) {v w : Option B} → v ≡ under f x → w ≡ under f y → v else w ≡ under f (x else y)
+  unfolding under _else_
+  under-else none y h k = rw (h, k)
+  under-else (some a) y h k = rw h
+
+-- two ways round a square
+pub under-square : {A B C D : Type 0} (f : A → B) (g : B → D) (h : A → C) (k : C → D) → ((a : A) → g (f a) ≡ k (h a)) →
+    (x : Option A) → under g (under f x) ≡ under k (under h x)
+unfolding under
+under-square f g h k same none = refl
+under-square f g h k same (some a) = ap some (same a)

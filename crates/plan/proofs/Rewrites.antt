@@ -1,0 +1,241 @@
+-- Laws of the four rewrites and of their order.
+use Prim.Native.Nat.{ℕ, _+_, _<_}
+use mathlib.Core.Path.{_≡_, refl, ap}
+use mathlib.Core.Logic.{_↔_, _⊎_, inl, inr, ⊎-elim, ⊎-map}
+use mathlib.Core.Option.{Option, none, some, IsSome}
+use native.Mathlib.Omega.{arith}
+use Rattle.plan.specs.Plan.{
+  op-a,
+  op-b,
+  op-c,
+  op-d,
+  Plan,
+  end,
+  operator,
+  token,
+  block,
+  _then_,
+  cells,
+  relabel,
+  WithoutC,
+}
+use Rattle.plan.specs.Token.{Allowed}
+use Rattle.plan.specs.Rewriting.{
+  _⟶_,
+  rule-a,
+  rule-b,
+  rule-c,
+  rule-d,
+  past-operator,
+  past-token,
+  past-block,
+  within,
+  after-two,
+  first-block,
+  outer,
+  inner,
+  next,
+}
+use Rattle.plan.specs.Options.{_else_, under}
+use Rattle.plan.proofs.Options.{Each, else-each, else-left, else-right, else-either, under-each, under-is-some, under-else, under-square}
+use Rattle.plan.proofs.Plans.{allowed-then, cells-then, relabel-then}
+
+-- The next rewrite is one of the four rules' ..
+module _ {L : Type 0} where
+  pub after-two-step : (l : L) (B : Plan L) (m : L) (A p : Plan L) →
+      Each (_⟶_ (block l B (block m A p))) (after-two l B m A p)
+  unfolding after-two
+  after-two-step l B m A end = tt
+  after-two-step l B m A (operator n op-a p) = rule-a
+  after-two-step l B m A (operator n op-b p) = rule-b
+  after-two-step l B m A (operator n op-c p) = tt
+  after-two-step l B m A (operator n op-d p) = tt
+  after-two-step l B m A (token n t p) = tt
+  after-two-step l B m A (block n C p) = tt
+
+  pub first-block-step : (l : L) (A p : Plan L) → Each (_⟶_ (block l A p)) (first-block l A p)
+  unfolding first-block
+  first-block-step l A end = tt
+  first-block-step l A (operator n op-a p) = tt
+  first-block-step l A (operator n op-b p) = tt
+  first-block-step l A (operator n op-c p) = rule-c
+  first-block-step l A (operator n op-d p) = rule-d
+  first-block-step l A (token n t p) = tt
+  first-block-step l A (block m B p) = after-two-step l A m B p
+
+  pub outer-step : (p : Plan L) → Each (_⟶_ p) (outer p)
+  unfolding outer
+  outer-step end = tt
+  outer-step (operator l o p) = under-each (operator l o) (_⟶_ p) _ (λ r. past-operator) (outer p) (outer-step p)
+  outer-step (token l t p) = under-each (token l t) (_⟶_ p) _ (λ r. past-token) (outer p) (outer-step p)
+  outer-step (block l A p) =
+      let after = under-each (block l A) (_⟶_ p) (_⟶_ (block l A p)) (λ r. past-block) (outer p) (outer-step p) in
+      else-each _ (first-block l A p) _ (first-block-step l A p) after
+
+  pub inner-step : (p : Plan L) → Each (_⟶_ p) (inner p)
+  unfolding inner
+  inner-step end = tt
+  inner-step (operator l o p) = under-each (operator l o) (_⟶_ p) _ (λ r. past-operator) (inner p) (inner-step p)
+  inner-step (token l t p) = under-each (token l t) (_⟶_ p) _ (λ r. past-token) (inner p) (inner-step p)
+  inner-step (block l A p) =
+      let inside = else-each (_⟶_ A) (outer A) (inner A) (outer-step A) (inner-step A) in
+      let around = under-each (λ B. block l B p) (_⟶_ A) (_⟶_ (block l A p)) (λ r. within) _ inside in
+      let after = under-each (block l A) (_⟶_ p) (_⟶_ (block l A p)) (λ r. past-block) (inner p) (inner-step p) in
+      else-each _ (under (λ B. block l B p) (outer A else inner A)) _ around after
+
+  pub next-step : (p : Plan L) {q : Plan L} → next p ≡ some q → p ⟶ q
+  unfolding next
+  next-step p h = rw h at (else-each (_⟶_ p) (outer p) (inner p) (outer-step p) (inner-step p))
+
+  -- .. and where a rule fits, there is a next one.
+  pub ready : {p q : Plan L} → p ⟶ q → IsSome (outer p) ⊎ IsSome (inner p)
+  unfolding outer inner first-block after-two _else_
+  ready rule-a = inl tt
+  ready rule-b = inl tt
+  ready rule-c = inl tt
+  ready rule-d = inl tt
+  ready (past-operator {p} s) = ⊎-map (under-is-some _ (outer p)) (under-is-some _ (inner p)) (ready s)
+  ready (past-token {p} s) = ⊎-map (under-is-some _ (outer p)) (under-is-some _ (inner p)) (ready s)
+  ready (past-block {l} {A} {p} s) =
+      ⊎-map
+      (λ h. else-right (first-block l A p) _ (under-is-some (block l A) (outer p) h))
+      (λ h. else-right (under (λ B. block l B p) (outer A else inner A)) _ (under-is-some (block l A) (inner p) h))
+      (ready s)
+  ready (within {l} {A} {p} s) =
+      let inside = else-either (outer A) (inner A) (ready s) in
+      let around = under-is-some (λ B. block l B p) (outer A else inner A) inside in
+      inr (else-left (under (λ B. block l B p) (outer A else inner A)) _ around)
+
+  pub next-finished : (p : Plan L) → next p ≡ none → {q : Plan L} → p ⟶ q → ⊥
+  unfolding next
+  next-finished p h s = rw h at (else-either (outer p) (inner p) (ready s))
+
+  pub finished-iff : (p : Plan L) → (next p ≡ none) ↔ ((q : Plan L) → p ⟶ q → ⊥)
+  finished-iff p = (λ h q s. next-finished p h s, go (next p) refl)
+    where
+      go : (x : Option (Plan L)) → next p ≡ x → ((q : Plan L) → p ⟶ q → ⊥) → next p ≡ none
+      go none h stuck = h
+      go (some q) h stuck = absurd (stuck q (next-step p h))
+
+  -- The order: a ready operator of the sequence itself goes before those inside its blocks.
+  pub outer-first : (p : Plan L) {q : Plan L} → outer p ≡ some q → next p ≡ some q
+  unfolding next _else_
+  outer-first p h = rw h
+
+  pub inner-after : (p : Plan L) → outer p ≡ none → next p ≡ inner p
+  unfolding next _else_
+  inner-after p h = rw h
+
+  -- The table of cells: before a rewrite and after it.
+  pub cells-a : (l m n : L) (B A p : Plan L) →
+      cells (block l B (block m A (operator n op-a p))) ≡ cells (A then block l B p) + 2
+  unfolding cells
+  cells-a l m n B A p = omega (arith, cells-then A (block l B p))
+
+  pub cells-b : (l m n : L) (B A p : Plan L) →
+      cells (block l B (block m A (operator n op-b p))) ≡ cells (block m (block l B A) p) + 1
+  unfolding cells
+  cells-b l m n B A p = omega arith
+
+  pub cells-c : (l n : L) (A p : Plan L) →
+      cells (block l A (block l A p)) ≡ cells (block l A (operator n op-c p)) + cells A
+  unfolding cells
+  cells-c l n A p = omega arith
+
+  pub cells-d : (l n : L) (A p : Plan L) → cells (block l A (operator n op-d p)) ≡ cells p + cells A + 2
+  unfolding cells
+  cells-d l n A p = omega arith
+
+  -- What a step keeps. Rule a joins two sequences, so joining has to keep it.
+  pub step-allowed : {p q : Plan L} (limit : ℕ) → p ⟶ q → Allowed limit p → Allowed limit q
+  step-allowed limit (rule-a {l} {B} {A} {p}) h = allowed-then limit A (block l B p) (h .1 .0) (h .0, h .1 .1)
+  step-allowed limit rule-b h = ((h .0, h .1 .0), h .1 .1)
+  step-allowed limit rule-c h = (h .0, (h .0, h .1))
+  step-allowed limit rule-d h = h .1
+  step-allowed limit (past-operator s) h = step-allowed limit s h
+  step-allowed limit (past-token s) h = (h .0, step-allowed limit s (h .1))
+  step-allowed limit (past-block s) h = (h .0, step-allowed limit s (h .1))
+  step-allowed limit (within s) h = (step-allowed limit s (h .0), h .1)
+
+  pub without-c-then : (p q : Plan L) → WithoutC p → WithoutC q → WithoutC (p then q)
+  unfolding _then_
+  without-c-then end q h k = k
+  without-c-then (operator l o p) q h k = (h .0, without-c-then p q (h .1) k)
+  without-c-then (token l t p) q h k = without-c-then p q h k
+  without-c-then (block l b p) q h k = (h .0, without-c-then p q (h .1) k)
+
+  pub step-without-c : {p q : Plan L} → p ⟶ q → WithoutC p → WithoutC q
+  step-without-c (rule-a {l} {B} {A} {p}) h = without-c-then A (block l B p) (h .1 .0) (h .0, h .1 .1 .1)
+  step-without-c rule-b h = ((h .0, h .1 .0), h .1 .1 .1)
+  step-without-c rule-c h = absurd (h .1 .0 refl)
+  step-without-c rule-d h = h .1 .1
+  step-without-c (past-operator s) h = (h .0, step-without-c s (h .1))
+  step-without-c (past-token s) h = step-without-c s h
+  step-without-c (past-block s) h = (h .0, step-without-c s (h .1))
+  step-without-c (within s) h = (step-without-c s (h .0), h .1)
+
+  -- Only c makes a plan larger, and no other rule leaves its size as it was.
+  pub step-smaller : {p q : Plan L} → p ⟶ q → WithoutC p → cells q < cells p
+  unfolding cells
+  step-smaller (rule-a {l} {m} {n} {B} {A} {p}) h = omega (arith, cells-a l m n B A p)
+  step-smaller rule-b h = omega arith
+  step-smaller rule-c h = absurd (h .1 .0 refl)
+  step-smaller rule-d h = omega arith
+  step-smaller (past-operator s) h = omega (arith, step-smaller s (h .1))
+  step-smaller (past-token s) h = omega (arith, step-smaller s h)
+  step-smaller (past-block s) h = omega (arith, step-smaller s (h .1))
+  step-smaller (within s) h = omega (arith, step-smaller s (h .0))
+
+-- No rule and no choice looks at a label.
+module _ {L M : Type 0} (f : L → M) where
+  pub after-two-relabel : (l : L) (B : Plan L) (m : L) (A p : Plan L) →
+      after-two (f l) (relabel f B) (f m) (relabel f A) (relabel f p) ≡ under (relabel f) (after-two l B m A p)
+  unfolding after-two under relabel
+  after-two-relabel l B m A end = refl
+  after-two-relabel l B m A (operator n op-a p) = rw (relabel-then f A (block l B p))
+  after-two-relabel l B m A (operator n op-b p) = refl
+  after-two-relabel l B m A (operator n op-c p) = refl
+  after-two-relabel l B m A (operator n op-d p) = refl
+  after-two-relabel l B m A (token n t p) = refl
+  after-two-relabel l B m A (block n C p) = refl
+
+  pub first-block-relabel : (l : L) (A p : Plan L) →
+      first-block (f l) (relabel f A) (relabel f p) ≡ under (relabel f) (first-block l A p)
+  unfolding first-block under relabel
+  first-block-relabel l A end = refl
+  first-block-relabel l A (operator n op-a p) = refl
+  first-block-relabel l A (operator n op-b p) = refl
+  first-block-relabel l A (operator n op-c p) = refl
+  first-block-relabel l A (operator n op-d p) = refl
+  first-block-relabel l A (token n t p) = refl
+  first-block-relabel l A (block m B p) = after-two-relabel l A m B p
+
+  -- what stands before a rewrite or around it is relabelled with it
+  pub under-relabel : (c : Plan L → Plan L) (d : Plan M → Plan M) → ((p : Plan L) → d (relabel f p) ≡ relabel f (c p)) →
+      (x : Option (Plan L)) {y : Option (Plan M)} → y ≡ under (relabel f) x → under d y ≡ under (relabel f) (under c x)
+  under-relabel c d same x h = rw h (under-square (relabel f) d c (relabel f) same x)
+
+  pub outer-relabel : (p : Plan L) → outer (relabel f p) ≡ under (relabel f) (outer p)
+  unfolding outer relabel under
+  outer-relabel end = refl
+  outer-relabel (operator l o p) = under-relabel (operator l o) _ (λ q. refl) (outer p) (outer-relabel p)
+  outer-relabel (token l t p) = under-relabel (token l t) _ (λ q. refl) (outer p) (outer-relabel p)
+  outer-relabel (block l A p) =
+      let after = under-relabel (block l A) (block (f l) (relabel f A)) (λ q. refl) (outer p) (outer-relabel p) in
+      under-else (relabel f) (first-block l A p) _ (first-block-relabel l A p) after
+
+  pub inner-relabel : (p : Plan L) → inner (relabel f p) ≡ under (relabel f) (inner p)
+  unfolding inner relabel under
+  inner-relabel end = refl
+  inner-relabel (operator l o p) = under-relabel (operator l o) _ (λ q. refl) (inner p) (inner-relabel p)
+  inner-relabel (token l t p) = under-relabel (token l t) _ (λ q. refl) (inner p) (inner-relabel p)
+  inner-relabel (block l A p) =
+      let inside = under-else (relabel f) (outer A) (inner A) (outer-relabel A) (inner-relabel A) in
+      let found = outer A else inner A in
+      let around = under-relabel (λ B. block l B p) (λ B. block (f l) B (relabel f p)) (λ q. refl) found inside in
+      let after = under-relabel (block l A) (block (f l) (relabel f A)) (λ q. refl) (inner p) (inner-relabel p) in
+      under-else (relabel f) (under (λ B. block l B p) found) _ around after
+
+  pub next-relabel : (p : Plan L) → next (relabel f p) ≡ under (relabel f) (next p)
+  unfolding next
+  next-relabel p = under-else (relabel f) (outer p) (inner p) (outer-relabel p) (inner-relabel p)

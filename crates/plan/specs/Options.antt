@@ -1,0 +1,11 @@
+-- What may be missing: another in its place, and a function used under it.
+use mathlib.Core.Option.{Option, none, some}
+
+infixr 25 _else_
+unfoldable pub _else_ : {A : Type 0} → Option A → Option A → Option A
+none else y = y
+some x else y = some x
+
+unfoldable pub under : {A B : Type 0} → (A → B) → Option A → Option B
+under f none = none
+under f (some x) = some (f x)

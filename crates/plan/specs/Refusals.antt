@@ -1,0 +1,52 @@
+-- The table's rows 13 to 17, "given exactly when" and "place", said of the text itself and not of a reader.
+use Prim.Native.Nat.{ℕ, zero, suc}
+use mathlib.Core.Path.{_≡_}
+use mathlib.Core.Bool.{true}
+use mathlib.Core.Option.{none}
+use mathlib.Core.List.{List, [], _∷_, _++_}
+use lib.ListN.{length}
+use Rattle.plan.specs.declared.Refusal.{Refusal}
+use Rattle.plan.specs.declared.Refusal.the-variants.{BadByte, BadToken, Unmatched, Unclosed, Overfull}
+use Rattle.plan.specs.Plan.{Operator, close-brace}
+use Rattle.plan.specs.Token.{allowed, token-text}
+use Rattle.plan.specs.Reading.{Class, OPERATOR, OPEN, CLOSE, BRACE, BLANK, BAD, class, place}
+
+-- `Faultless limit d bs e k`: the bytes hold no fault where d blocks are open before them; e are open after them, and
+-- k items begin among them.
+pub data Faultless (limit : ℕ) : ℕ → List ℕ → ℕ → ℕ → Type 0 where
+  nothing : {d : ℕ} → Faultless limit d [] d 0
+  blank : {d e k b : ℕ} {bs : List ℕ} → class b ≡ BLANK → Faultless limit d bs e k → Faultless limit d (b ∷ bs) e k
+  an-operator : {d e k b : ℕ} {o : Operator} {bs : List ℕ}
+      → class b ≡ OPERATOR o → Faultless limit d bs e k → Faultless limit d (b ∷ bs) e (suc k)
+  a-token : {d e k b : ℕ} {bs : List ℕ} (t : List ℕ)
+      → class b ≡ BRACE → allowed limit t ≡ true → Faultless limit d bs e k
+      → Faultless limit d (b ∷ (t ++ close-brace ∷ bs)) e (suc k)
+  opens : {d e k b : ℕ} {bs : List ℕ}
+      → class b ≡ OPEN → Faultless limit (suc d) bs e k → Faultless limit d (b ∷ bs) e (suc k)
+  closes : {d e k b : ℕ} {bs : List ℕ}
+      → class b ≡ CLOSE → Faultless limit d bs e k → Faultless limit (suc d) (b ∷ bs) e k
+
+-- the faults of one byte at the place `at`, with d blocks open and `rest` after it
+pub data Fault (limit at : ℕ) (b : ℕ) (rest : List ℕ) : ℕ → Refusal → Type 0 where
+  bad-byte : {d : ℕ} → class b ≡ BAD → Fault limit at b rest d (BadByte (place at))
+  bad-token : {d : ℕ} → class b ≡ BRACE → token-text limit rest ≡ none → Fault limit at b rest d (BadToken (place at))
+  unmatched : class b ≡ CLOSE → Fault limit at b rest 0 (Unmatched (place at))
+
+-- the classes of an item's first byte
+abbrev pub Begins : Class → Type 0
+Begins (OPERATOR o) = Unit {0}
+Begins OPEN = Unit {0}
+Begins CLOSE = ⊥
+Begins BRACE = Unit {0}
+Begins BLANK = ⊥
+Begins BAD = ⊥
+
+-- the first fault; else the end in an open block; else the first item past n
+pub data Row (limit n : ℕ) (text : List ℕ) : Refusal → Type 0 where
+  fault : (before rest : List ℕ) (b : ℕ) {d k : ℕ} {r : Refusal}
+      → text ≡ before ++ b ∷ rest → Faultless limit 0 before d k → Fault limit (length before) b rest d r
+      → Row limit n text r
+  unclosed : {d k : ℕ} → Faultless limit 0 text (suc d) k → Row limit n text (Unclosed (place (length text)))
+  overfull : (before rest : List ℕ) (b : ℕ) {d k : ℕ}
+      → text ≡ before ++ b ∷ rest → Faultless limit 0 before d n → Begins (class b) → Faultless limit 0 text 0 k
+      → Row limit n text (Overfull (place (length before)))
