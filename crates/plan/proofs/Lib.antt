@@ -6,6 +6,7 @@ pub mod ReadBack
 pub mod Refusals
 pub mod Rewrites
 pub mod Runs
+pub mod Slots
 pub mod Tests
 pub mod Tokens
 pub mod Utf8

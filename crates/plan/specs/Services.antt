@@ -85,7 +85,7 @@ as-read (PLAN p) = GIVES (Read (cells p) (length (print p))) (print p)
 unfoldable pub reads : Limits → List ℕ → Outcome
 reads lim text = as-read (accept lim (lim .cells) text)
 
-unfoldable pub as-run : Run ℕ → Outcome
+unfoldable pub as-run : {L : Type 0} → Run L → Outcome
 as-run (RAN e steps p) = GIVES (Ran e steps (cells p) (length (print p))) (print p)
 
 unfoldable pub run-read : (n quota : ℕ) → Reading → Outcome
