@@ -1,3 +1,4 @@
+pub mod Answers
 pub mod Classes
 pub mod Options
 pub mod Plans

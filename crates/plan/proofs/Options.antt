@@ -45,9 +45,26 @@ module _ {A B : Type 0} (f : A → B) where
   under-else none y h k = rw (h, k)
   under-else (some a) y h k = rw h
 
+pub under-under : {A B C : Type 0} (f : A → B) (g : B → C) (x : Option A) → under g (under f x) ≡ under (λ a. g (f a)) x
+unfolding under
+under-under f g none = refl
+under-under f g (some a) = refl
+
 -- two ways round a square
 pub under-square : {A B C D : Type 0} (f : A → B) (g : B → D) (h : A → C) (k : C → D) → ((a : A) → g (f a) ≡ k (h a)) →
     (x : Option A) → under g (under f x) ≡ under k (under h x)
 unfolding under
 under-square f g h k same none = refl
 under-square f g h k same (some a) = ap some (same a)
+
+pub some-under : {A B : Type 0} (f : A → B) (x : Option A) → IsSome (under f x) → IsSome x
+unfolding under
+some-under f none h = h
+some-under f (some a) h = tt
+
+-- the first of two decides, and the second only where the first is missing
+pub else-front : {A B : Type 0} (f : A → B) (x y : Option A) {v w : Option B} → IsSome (x else y)
+    → (IsSome x → v ≡ under f x) → (IsSome y → (v ≡ under f x) × (w ≡ under f y)) → v else w ≡ under f (x else y)
+unfolding under _else_
+else-front f none y s left right = let both = right s in rw (both .0) (both .1)
+else-front f (some a) y s left right = rw (left tt)

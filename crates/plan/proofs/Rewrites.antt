@@ -1,6 +1,6 @@
 -- Laws of the four rewrites and of their order.
 use Prim.Native.Nat.{ℕ, _+_, _<_}
-use mathlib.Core.Path.{_≡_, refl, ap}
+use mathlib.Core.Path.{_≡_, refl, ap, sym, _∙_}
 use mathlib.Core.Logic.{_↔_, _⊎_, inl, inr, ⊎-elim, ⊎-map}
 use mathlib.Core.Option.{Option, none, some, IsSome}
 use native.Mathlib.Omega.{arith}
@@ -37,8 +37,8 @@ use Rattle.plan.specs.Rewriting.{
   next,
 }
 use Rattle.plan.specs.Options.{_else_, under}
-use Rattle.plan.proofs.Options.{Each, else-each, else-left, else-right, else-either, under-each, under-is-some, under-else, under-square}
-use Rattle.plan.proofs.Plans.{allowed-then, cells-then, relabel-then}
+use Rattle.plan.proofs.Options.{Each, else-each, else-left, else-right, else-either, under-each, under-is-some, under-else, under-square, under-under, some-under, else-front}
+use Rattle.plan.proofs.Plans.{allowed-then, cells-then, relabel-then, then-assoc}
 
 -- The next rewrite is one of the four rules' ..
 module _ {L : Type 0} where
@@ -239,3 +239,54 @@ module _ {L M : Type 0} (f : L → M) where
   pub next-relabel : (p : Plan L) → next (relabel f p) ≡ under (relabel f) (next p)
   unfolding next
   next-relabel p = under-else (relabel f) (outer p) (inner p) (outer-relabel p) (inner-relabel p)
+
+-- The order. A sequence's front part that has a ready operator decides which one is rewritten, whatever comes behind it:
+-- so it is the leftmost; and if none of the sequence itself is ready, a front part that has one inside a block decides.
+module _ {L : Type 0} (y : Plan L) where
+  after-two-front : (l : L) (B : Plan L) (m : L) (A x : Plan L) → IsSome (after-two l B m A x) ⊎ IsSome (outer (block m A x))
+      → after-two l B m A (x then y) ≡ under (_then y) (after-two l B m A x)
+  unfolding after-two outer first-block _else_ under _then_
+  after-two-front l B m A end s = ⊎-elim absurd absurd s
+  after-two-front l B m A (operator n op-a p) s = ap some (sym (then-assoc A (block l B p) y))
+  after-two-front l B m A (operator n op-b p) s = refl
+  after-two-front l B m A (operator n op-c p) s = refl
+  after-two-front l B m A (operator n op-d p) s = refl
+  after-two-front l B m A (token n t p) s = refl
+  after-two-front l B m A (block n C p) s = refl
+
+  first-block-front : (l : L) (A x : Plan L) → IsSome (first-block l A x) ⊎ IsSome (outer x)
+      → first-block l A (x then y) ≡ under (_then y) (first-block l A x)
+  unfolding first-block outer under _then_
+  first-block-front l A end s = ⊎-elim absurd absurd s
+  first-block-front l A (operator n op-a p) s = refl
+  first-block-front l A (operator n op-b p) s = refl
+  first-block-front l A (operator n op-c p) s = refl
+  first-block-front l A (operator n op-d p) s = refl
+  first-block-front l A (token n t p) s = refl
+  first-block-front l A (block m B p) s = after-two-front l A m B p s
+
+  -- an item before a front part
+  behind : (f : Plan L → Plan L) → ((q : Plan L) → f q then y ≡ f (q then y)) → (x : Option (Plan L)) {v : Option (Plan L)}
+      → v ≡ under (_then y) x → under f v ≡ under (_then y) (under f x)
+  behind f same x h = ap (under f) h ∙ under-square (_then y) f f (_then y) (λ q. sym (same q)) x
+
+  pub outer-leftmost : (x : Plan L) → IsSome (outer x) → outer (x then y) ≡ under (_then y) (outer x)
+  unfolding outer _then_
+  outer-leftmost end s = absurd s
+  outer-leftmost (operator l o p) s = behind (operator l o) (λ q. refl) (outer p) (outer-leftmost p (some-under _ (outer p) s))
+  outer-leftmost (token l t p) s = behind (token l t) (λ q. refl) (outer p) (outer-leftmost p (some-under _ (outer p) s))
+  outer-leftmost (block l A p) s =
+      else-front (_then y) (first-block l A p) (under (block l A) (outer p)) s (λ f. first-block-front l A p (inl f))
+      (λ u. let o = some-under (block l A) (outer p) u in
+      (first-block-front l A p (inr o), behind (block l A) (λ q. refl) (outer p) (outer-leftmost p o)))
+
+  pub inner-leftmost : (x : Plan L) → IsSome (inner x) → inner (x then y) ≡ under (_then y) (inner x)
+  unfolding inner _then_
+  inner-leftmost end s = absurd s
+  inner-leftmost (operator l o p) s = behind (operator l o) (λ q. refl) (inner p) (inner-leftmost p (some-under _ (inner p) s))
+  inner-leftmost (token l t p) s = behind (token l t) (λ q. refl) (inner p) (inner-leftmost p (some-under _ (inner p) s))
+  inner-leftmost (block l A p) s =
+      let within-front = sym (under-under (λ B. block l B p) (_then y) (outer A else inner A)) in
+      else-front (_then y) (under (λ B. block l B p) (outer A else inner A)) (under (block l A) (inner p)) s (λ f. within-front)
+      (λ u. let o = some-under (block l A) (inner p) u in
+      (within-front, behind (block l A) (λ q. refl) (inner p) (inner-leftmost p o)))

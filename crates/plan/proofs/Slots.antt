@@ -17,7 +17,7 @@ use Rattle.plan.specs.Plan.{Plan, cells, print, bare}
 use Rattle.plan.specs.Token.{Allowed}
 use Rattle.plan.specs.Reading.{Reading, PLAN, REFUSED, read}
 use Rattle.plan.specs.Running.{Ran as Run, RAN, run-plan}
-use Rattle.plan.specs.Services.{Limits, Outcome, REFUSES, GIVES, accept, as-run, run-read, runs}
+use Rattle.plan.specs.Services.{Limits, Outcome, REFUSES, GIVES, accept, as-run, run-read, runs, standard}
 use Rattle.plan.specs.Slots.{after, next-slot, plus-steps, slots, total}
 use Rattle.plan.proofs.Plans.{cells-relabel, print-relabel}
 use Rattle.plan.proofs.ReadBack.{Accepted, bare-placed, placed, print-bound, read-accepted, read-print}
@@ -157,3 +157,6 @@ module _ (lim : Limits) (roomy : Roomy lim) (n : ℕ) where
           let fine = run-allowed n quota (b .plan) h (lim .token) (b .fine) in
           let fits = run-cells n quota (b .plan) h (b .fits) in
           (placed 0 q, ap (accept lim n) (sym same) ∙ print-accepted lim roomy n (b .lent) q fine fits)
+
+pub standard-roomy : Roomy standard
+standard-roomy = record { block = omega arith; plan = omega arith }

@@ -1,14 +1,23 @@
--- The table's rows 13 to 17, "given exactly when" and "place", said of the text itself and not of a reader.
-use Prim.Native.Nat.{ℕ, zero, suc}
+-- The table's rows 11 to 17, "given exactly when" and "place", said of the text itself and not of a reader.
+use Prim.Native.Nat.{ℕ, suc, _≤_, _<_}
 use mathlib.Core.Path.{_≡_}
 use mathlib.Core.Bool.{true}
 use mathlib.Core.Option.{none}
 use mathlib.Core.List.{List, [], _∷_, _++_}
 use lib.ListN.{length}
 use Rattle.plan.specs.declared.Refusal.{Refusal}
-use Rattle.plan.specs.declared.Refusal.the-variants.{BadByte, BadToken, Unmatched, Unclosed, Overfull}
+use Rattle.plan.specs.declared.Refusal.the-variants.{
+  TooLong,
+  BadArena,
+  BadByte,
+  BadToken,
+  Unmatched,
+  Unclosed,
+  Overfull,
+}
 use Rattle.plan.specs.Plan.{Operator, close-brace}
 use Rattle.plan.specs.Token.{allowed, token-text}
+use Rattle.plan.specs.Services.{Limits}
 use Rattle.plan.specs.Reading.{Class, OPERATOR, OPEN, CLOSE, BRACE, BLANK, BAD, class, place}
 
 -- `Faultless limit d bs e k`: the bytes hold no fault where d blocks are open before them; e are open after them, and
@@ -50,3 +59,9 @@ pub data Row (limit n : ℕ) (text : List ℕ) : Refusal → Type 0 where
   overfull : (before rest : List ℕ) (b : ℕ) {d k : ℕ}
       → text ≡ before ++ b ∷ rest → Faultless limit 0 before d n → Begins (class b) → Faultless limit 0 text 0 k
       → Row limit n text (Overfull (place (length before)))
+
+-- the rows 11 and 12 stand before those of the text
+pub data Refuses (lim : Limits) (n : ℕ) (text : List ℕ) : Refusal → Type 0 where
+  too-long : lim .text < length text → Refuses lim n text TooLong
+  bad-arena : length text ≤ lim .text → lim .cells < n → Refuses lim n text BadArena
+  bad-text : {r : Refusal} → length text ≤ lim .text → n ≤ lim .cells → Row (lim .token) n text r → Refuses lim n text r
