@@ -1,0 +1,3 @@
+pub mod Characters
+pub mod Table
+pub mod Values
