@@ -1,5 +1,7 @@
 pub mod Answers
+pub mod Blanks
 pub mod Classes
+pub mod Faultless
 pub mod Options
 pub mod Plans
 pub mod Reached

@@ -1,21 +1,13 @@
 -- What a reader has come to behind bytes without a fault: one induction over such bytes says where it goes on, what it
 -- has printed, counted and allowed so far. The laws of reading are read off it.
-use Prim.Native.Nat.{ℕ, zero, suc, _+_}
+use Prim.Native.Nat.{ℕ, suc, _+_}
 use mathlib.Core.Path.{_≡_, refl, ap, sym, _∙_, subst}
-use mathlib.Core.Bool.{Bool, true, false, cond, not, _||_}
-use mathlib.Core.Option.{some}
-use mathlib.Core.Logic.{_⊎_, _≢_, ⊎-elim}
+use mathlib.Core.Bool.{true, false}
 use mathlib.Core.List.{List, [], _∷_, _++_, append-nil, append-assoc}
 use native.Mathlib.Omega.{arith}
 use lib.ListN.{length, length-append}
-use lib.Dec.{eqb}
-use borrow.Author.Tests.{ne-eqb}
 use Rattle.plan.specs.Plan.{
   Operator,
-  op-a,
-  op-b,
-  op-c,
-  op-d,
   Plan,
   end,
   operator,
@@ -25,26 +17,22 @@ use Rattle.plan.specs.Plan.{
   cells,
   print,
   labels,
-  letter,
   open-bracket,
   close-bracket,
-  open-brace,
   close-brace,
 }
-use Rattle.plan.specs.Token.{allowed, token-text, Allowed}
+use Rattle.plan.specs.Token.{allowed, Allowed}
 use Rattle.plan.specs.Reading.{
   ON,
   PLAN,
   Around,
   outermost,
   inside,
-  Class,
   OPERATOR,
   OPEN,
   CLOSE,
   BRACE,
   BLANK,
-  BAD,
   class,
   go-on,
   move,
@@ -53,10 +41,10 @@ use Rattle.plan.specs.Reading.{
   without-blanks,
 }
 use Rattle.plan.specs.Refusals.{Begins, Faultless, nothing, blank, an-operator, a-token, opens, closes}
-use Rattle.plan.proofs.Classes.{Byte, class-byte, class-blank, not-brace, clash}
-use Rattle.plan.proofs.Tests.{cond-cases}
+use Rattle.plan.proofs.Blanks.{seam, kept, dropped, token-kept, token-seam}
+use Rattle.plan.proofs.Classes.{class-byte, clash}
 use Rattle.plan.proofs.Plans.{labels-then, print-then, allowed-then, length-labels}
-use Rattle.plan.proofs.Tokens.{NoBrace, allowed-no-brace, token-text-at}
+use Rattle.plan.proofs.Tokens.{allowed-no-brace, token-text-at}
 
 abbrev pub depth : Around → ℕ
 depth outermost = 0
@@ -127,42 +115,6 @@ onward {limit} {at} {out = out} {here = here} {xs = xs} {bs = bs} w r s m =
       printed = s .printed ∙ ap (_++ without-blanks false bs) (r .printed) ∙ append-assoc (shown out here) (without-blanks false xs) (without-blanks false bs) ∙ ap (shown out here ++_) (sym w);
       fine = λ f. s .fine (r .fine f);
     }
-
--- one byte that is not `{` stands across no seam
-seam : (b : ℕ) (bs : List ℕ) → class b ≢ BRACE
-    → without-blanks false (b ∷ bs) ≡ without-blanks false (b ∷ []) ++ without-blanks false bs
-unfolding without-blanks
-seam b bs h = rw (not-brace b h) (go (eqb b 32 || eqb b 10))
-  where
-    go : (t : Bool) → cond t (without-blanks false bs) (b ∷ without-blanks false bs) ≡ cond t [] (b ∷ []) ++ without-blanks false bs
-    go true = refl
-    go false = refl
-
-kept : (b : ℕ) → class b ≢ BLANK → without-blanks false (b ∷ []) ≡ b ∷ []
-unfolding without-blanks
-kept b h = cond-cases (λ l. l ≡ b ∷ []) (eqb b 32 || eqb b 10) (λ e. absurd (h (class-blank b e))) (λ _. refl)
-
-dropped : (b : ℕ) → class b ≡ BLANK → without-blanks false (b ∷ []) ≡ []
-unfolding without-blanks
-dropped b c = ⊎-elim (ap λ x. without-blanks false (x ∷ [])) (ap λ x. without-blanks false (x ∷ [])) (rw c at (class-byte b))
-
-in-token : (t bs : List ℕ) → NoBrace t → without-blanks true (t ++ close-brace ∷ bs) ≡ t ++ close-brace ∷ without-blanks false bs
-unfolding without-blanks
-in-token [] bs h = refl
-in-token (b ∷ t) bs h = rw (ne-eqb b close-brace (h .0), in-token t bs (h .1))
-
-token-kept : (b : ℕ) (t bs : List ℕ) → b ≡ open-brace → NoBrace t
-    → without-blanks false (b ∷ (t ++ close-brace ∷ bs)) ≡ open-brace ∷ (t ++ close-brace ∷ without-blanks false bs)
-unfolding without-blanks
-token-kept b t bs e h = rw e (ap (open-brace ∷_) (in-token t bs h))
-
-token-seam : (b : ℕ) (t bs : List ℕ) → b ≡ open-brace → NoBrace t
-    → without-blanks false ((b ∷ (t ++ close-brace ∷ [])) ++ bs) ≡ without-blanks false (b ∷ (t ++ close-brace ∷ [])) ++ without-blanks false bs
-unfolding without-blanks
-token-seam b t bs e h =
-    let regrouped : (us : List ℕ) → (t ++ close-brace ∷ []) ++ us ≡ t ++ close-brace ∷ us = append-assoc t (close-brace ∷ []) in
-    ap (λ us. without-blanks false (b ∷ us)) (regrouped bs) ∙ token-kept b t bs e h
-    ∙ sym (ap (_++ without-blanks false bs) (token-kept b t [] e h) ∙ ap (open-brace ∷_) (regrouped (without-blanks false bs)))
 
 -- what one byte makes of the reader, where it is not `{`
 module _ (limit at b : ℕ) (out : Around) (here : Plan ℕ) where
