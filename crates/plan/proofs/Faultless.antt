@@ -17,7 +17,7 @@ use Rattle.plan.proofs.Tests.{cond-cases}
 use Rattle.plan.proofs.Tokens.{allowed-no-brace}
 
 pub faultless-then : {limit d e f j k : ℕ} {xs ys : List ℕ} → Faultless limit d xs e j → Faultless limit e ys f k
-  → Faultless limit d (xs ++ ys) f (j + k)
+    → Faultless limit d (xs ++ ys) f (j + k)
 faultless-then nothing g = rw zero-add g
 faultless-then (blank c h) g = blank c (faultless-then h g)
 faultless-then (an-operator c h) g = rw suc-add (an-operator c (faultless-then h g))
@@ -75,5 +75,5 @@ without-blanks-length true (b ∷ bs) = omega (arith, without-blanks-length (not
 without-blanks-length false (b ∷ bs) =
     let dropped : length (without-blanks false bs) ≤ suc (length bs) = omega (arith, without-blanks-length false bs) in
     let kept : length (b ∷ without-blanks (eqb b open-brace) bs) ≤ suc (length bs) =
-          omega (arith, without-blanks-length (eqb b open-brace) bs) in
+    omega (arith, without-blanks-length (eqb b open-brace) bs) in
     cond-cases (λ (us : List ℕ). length us ≤ suc (length bs)) (eqb b 32 || eqb b 10) (λ _. dropped) (λ _. kept)

@@ -1,11 +1,12 @@
 -- What a reader has come to behind bytes without a fault: one induction over such bytes says where it goes on, what it
 -- has printed, counted and allowed so far. The laws of reading are read off it.
-use Prim.Native.Nat.{ℕ, suc, _+_}
+use Prim.Native.Nat.{ℕ, suc, _+_, _≤_}
 use mathlib.Core.Path.{_≡_, refl, ap, sym, _∙_, subst}
 use mathlib.Core.Bool.{true, false}
 use mathlib.Core.List.{List, [], _∷_, _++_, append-nil, append-assoc}
 use native.Mathlib.Omega.{arith}
 use lib.ListN.{length, length-append}
+use borrow.Author.Tests.{le-leb}
 use Rattle.plan.specs.Plan.{
   Operator,
   Plan,
@@ -38,6 +39,8 @@ use Rattle.plan.specs.Reading.{
   move,
   past-token,
   read-from,
+  fit,
+  read,
   without-blanks,
 }
 use Rattle.plan.specs.Refusals.{Begins, Faultless, nothing, blank, an-operator, a-token, opens, closes}
@@ -301,3 +304,7 @@ text-read f =
       printed = w .printed;
       fine = w .fine tt;
     }
+
+pub text-fits : {limit k : ℕ} {text : List ℕ} (n : ℕ) (t : TextRead limit text k) → k ≤ n → read limit n text ≡ PLAN (t .plan)
+unfolding read fit
+text-fits n t h = rw (t .reads, le-leb (cells (t .plan)) n (omega (arith, t .counted)))

@@ -1,2 +1,4 @@
 pub mod Classes
 pub mod Continued
+pub mod Counting
+pub mod Tidy

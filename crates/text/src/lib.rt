@@ -1,13 +1,23 @@
-// The text's side of reading a plan: the class of a byte, and the character of UTF-8 at a place.
+// The text's side of reading a plan: the class of a byte, the character of UTF-8 at a place, and which characters a
+// token may hold.
 ghost use mathlib.Core.Path.{_≡_};
 ghost use lib.ListN.{drop};
 ghost use Rattle.plan.specs.Reading.{class};
-ghost use Rattle.plan.specs.Token.{character, value, well-formed};
+ghost use Rattle.plan.specs.Token.{character, may-hold, value, well-formed};
 ghost use Rattle.text.specs.Classes.{class-number};
 ghost use Rattle.text.specs.Continued.{continued, Room};
 use plan::Character;
 
 mod classes;
+mod reader;
+mod tidy;
+
+pub use reader::Count;
+pub use reader::InToken;
+pub use reader::Step;
+pub use reader::Surveyed;
+pub use reader::survey;
+pub use tidy::put_tidied;
 
 // The class number of a byte outside tokens.
 pub fn class_of(byte: u8) -> u8
@@ -98,4 +108,29 @@ pub fn character_at(text: &[u8], at: usize) -> Character
         return well_formed(4, 0x10000, following(text, next, first - 0xF0, 3));
     }
     Character::Malformed
+}
+
+// Whether a token may hold the character of this value: no brace, no control character, no U+FFFD.
+pub fn may_hold(value: u32) -> bool
+    ensures { λ r. ⌜ r ≡ may-hold value ⌝ }
+{
+    if value == 0x7B {
+        return false;
+    }
+    if value == 0x7D {
+        return false;
+    }
+    if value < 0x20 {
+        return false;
+    }
+    if value < 0x7F {
+        return true;
+    }
+    if value <= 0x9F {
+        return false;
+    }
+    if value == 0xFFFD {
+        return false;
+    }
+    true
 }

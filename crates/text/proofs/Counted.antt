@@ -1,0 +1,133 @@
+-- Each answer of the reader's leaves is the case of its definition that the tests before it say.
+use Prim.Native.Nat.{ℕ, _+_, _-_, _<_, _≤_}
+use mathlib.Core.Path.{_≡_, refl, ap, sym, _∙_}
+use mathlib.Core.Bool.{Bool, true, false, cond}
+use mathlib.Core.Logic.{_≢_}
+use native.Mathlib.Omega.{arith}
+use lib.Dec.{eqb}
+use borrow.Author.Tests.{eq-eqb, ne-eqb, lt-ltb, le-ltb}
+use Rattle.kinds.specs.declared.Place.{Place}
+use Rattle.plan.specs.Plan.{Operator, op-a, op-b, op-c, op-d, close-brace}
+use Rattle.plan.specs.Token.{may-hold}
+use Rattle.plan.specs.Reading.{Class, OPERATOR, OPEN, CLOSE, BRACE, BLANK, BAD, class, place}
+use Rattle.plan.specs.declared.Character.{Character}
+use Rattle.plan.specs.declared.Character.the-variants.{Whole, Malformed}
+use Rattle.plan.specs.declared.Refusal.the-variants.{BadByte, Unmatched, Unclosed, Overfull}
+use Rattle.text.specs.Classes.{class-number}
+use Rattle.text.specs.Counting.{one-item, opened, closed, stepped, in-token, finished}
+use Rattle.text.specs.declared.reader.Count.{Count}
+use Rattle.text.specs.declared.reader.InToken.the-variants.{Further, Close, Bad}
+use Rattle.text.specs.declared.reader.Step.{Step}
+use Rattle.text.specs.declared.reader.Step.the-variants.{On, Token, Stop}
+use Rattle.text.specs.declared.reader.Surveyed.the-variants.{Accepted, Refused}
+
+module _ (n : Count) (at room bytes : ℕ) where
+  abbrev item : Place → Count
+  item p = record { depth = n .depth; cells = n .cells + 1; length = n .length + bytes; past = p }
+
+  pub item-past : (p : Place) → n .cells ≡ room → p .0 ≡ at → item p ≡ one-item n at room bytes
+  item-past p e h = simp (eq-eqb (n .cells) room e) (ap (λ k. item (place k)) h)
+
+  pub item-within : n .cells ≢ room → item (n .past) ≡ one-item n at room bytes
+  item-within e = simp (ne-eqb (n .cells) room e)
+
+-- a class by its number
+abbrev by-number : ℕ → Class
+by-number m = cond (eqb m 4) OPEN (cond (eqb m 5) CLOSE (cond (eqb m 6) BRACE (cond (eqb m 7) BLANK BAD)))
+
+operator-number : (k : Class) {m : ℕ} → m ≡ class-number k → m < 4 → (o : Operator) × (k ≡ OPERATOR o)
+operator-number (OPERATOR o) e h = (o, refl)
+operator-number OPEN e h = absurd (omega arith)
+operator-number CLOSE e h = absurd (omega arith)
+operator-number BRACE e h = absurd (omega arith)
+operator-number BLANK e h = absurd (omega arith)
+operator-number BAD e h = absurd (omega arith)
+
+other-number : (k : Class) {m : ℕ} → m ≡ class-number k → 4 ≤ m → k ≡ by-number m
+other-number (OPERATOR op-a) e h = absurd (omega arith)
+other-number (OPERATOR op-b) e h = absurd (omega arith)
+other-number (OPERATOR op-c) e h = absurd (omega arith)
+other-number (OPERATOR op-d) e h = absurd (omega arith)
+other-number OPEN e h = sym (ap by-number e)
+other-number CLOSE e h = sym (ap by-number e)
+other-number BRACE e h = sym (ap by-number e)
+other-number BLANK e h = sym (ap by-number e)
+other-number BAD e h = sym (ap by-number e)
+
+module _ (n : Count) (b at room : ℕ) {m : ℕ} (e : m ≡ class-number (class b)) where
+  is-class : (k : ℕ) → m ≡ k → 4 ≤ k → class b ≡ by-number k
+  is-class k h g = other-number (class b) e (omega arith) ∙ ap by-number h
+
+  pub step-operator : (r : Count) → m < 4 → r ≡ one-item n at room 1 → On r ≡ stepped n (class b) at room
+  unfolding stepped
+  step-operator r h g = rw (operator-number (class b) e h .1) (ap On g)
+
+  pub step-open : (r : Count) → m ≡ 4 → r ≡ opened n at room → On r ≡ stepped n (class b) at room
+  unfolding stepped
+  step-open r h g = rw (is-class 4 h (omega arith)) (ap On g)
+
+  pub step-close : (r : Step) → m ≡ 5 → r ≡ stepped n CLOSE at room → r ≡ stepped n (class b) at room
+  step-close r h g = rw (is-class 5 h (omega arith)) g
+
+  pub step-brace : m ≡ 6 → Token ≡ stepped n (class b) at room
+  unfolding stepped
+  step-brace h = rw (is-class 6 h (omega arith))
+
+  pub step-blank : m ≡ 7 → On n ≡ stepped n (class b) at room
+  unfolding stepped
+  step-blank h = rw (is-class 7 h (omega arith))
+
+  pub step-bad : (p : Place) → 4 ≤ m → m ≢ 4 → m ≢ 5 → m ≢ 6 → m ≢ 7 → p .0 ≡ at → Stop (BadByte p) ≡ stepped n (class b) at room
+  unfolding stepped
+  step-bad p h h₄ h₅ h₆ h₇ g =
+      rw (other-number (class b) e h, ne-eqb m 4 h₄, ne-eqb m 5 h₅, ne-eqb m 6 h₆, ne-eqb m 7 h₇)
+      (ap (λ k. Stop (BadByte (place k))) g)
+
+module _ (n : Count) (at room : ℕ) where
+  pub close-unmatched : (p : Place) → n .depth ≡ 0 → p .0 ≡ at → Stop (Unmatched p) ≡ stepped n CLOSE at room
+  unfolding stepped
+  close-unmatched p h g = rw (eq-eqb (n .depth) 0 h) (ap (λ k. Stop (Unmatched (place k))) g)
+
+  pub close-matched : n .depth ≢ 0 → On (closed n) ≡ stepped n CLOSE at room
+  unfolding stepped
+  close-matched h = rw (ne-eqb (n .depth) 0 h)
+
+  pub end-open : (p : Place) → 0 < n .depth → p .0 ≡ at → Refused (Unclosed p) ≡ finished n at room
+  unfolding finished
+  end-open p h g = rw (lt-ltb 0 (n .depth) h) (ap (λ k. Refused (Unclosed (place k))) g)
+
+  pub end-past : n .depth ≤ 0 → room < n .cells → Refused (Overfull (n .past)) ≡ finished n at room
+  unfolding finished
+  end-past h g = rw (le-ltb 0 (n .depth) h, lt-ltb room (n .cells) g)
+
+  pub end-within : n .depth ≤ 0 → n .cells ≤ room → Accepted (n .cells) (n .length) ≡ finished n at room
+  unfolding finished
+  end-within h g = rw (le-ltb 0 (n .depth) h, le-ltb room (n .cells) g)
+
+-- the character y that the leaf found is the one at the place, x
+module _ (limit taken : ℕ) {x y : Character} (found : y ≡ x) where
+  pub token-cut : y ≡ Malformed → Bad ≡ in-token limit taken x
+  unfolding in-token
+  token-cut e = rw (sym found ∙ e)
+
+  module _ {v w : ℕ} (e : y ≡ Whole v w) where
+    pub token-nothing : v ≡ close-brace → taken ≡ 0 → Bad ≡ in-token limit taken x
+    unfolding in-token
+    token-nothing h g = rw (sym found ∙ e, eq-eqb v close-brace h, eq-eqb taken 0 g)
+
+    pub token-close : v ≡ close-brace → taken ≢ 0 → Close ≡ in-token limit taken x
+    unfolding in-token
+    token-close h g = rw (sym found ∙ e, eq-eqb v close-brace h, ne-eqb taken 0 g)
+
+    pub token-over : v ≢ close-brace → limit < taken + w + 2 → Bad ≡ in-token limit taken x
+    unfolding in-token
+    token-over h g = rw (sym found ∙ e, ne-eqb v close-brace h, lt-ltb limit (taken + w + 2) g)
+
+    module _ (h : v ≢ close-brace) (g : taken + w + 2 ≤ limit) {t : Bool} (m : t ≡ may-hold v) where
+      pub token-further : t ≡ true → Further w ≡ in-token limit taken x
+      unfolding in-token
+      token-further t = rw (sym found ∙ e, ne-eqb v close-brace h, le-ltb limit (taken + w + 2) g, sym m ∙ t)
+
+      pub token-bad : t ≡ false → Bad ≡ in-token limit taken x
+      unfolding in-token
+      token-bad t = rw (sym found ∙ e, ne-eqb v close-brace h, le-ltb limit (taken + w + 2) g, sym m ∙ t)

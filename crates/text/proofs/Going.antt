@@ -1,0 +1,263 @@
+-- What the reader's outer loop knows at each place, and each turn of it on plain values: the bytes passed hold no fault, and
+-- the counts are theirs. The end of the text, and a fault, are then what reading says.
+use Prim.Native.Nat.{ℕ, suc, _+_, _-_, _≤_, _<_}
+use mathlib.Core.Path.{_≡_, refl, ap, ap₂, sym, _∙_, subst}
+use mathlib.Core.Bool.{Bool, true, false, cond}
+use mathlib.Core.Logic.{_≢_, _↔_}
+use mathlib.Core.List.{List, [], _∷_, _++_}
+use native.Mathlib.Omega.{arith}
+use native.Mathlib.Nat.{add-zero}
+use native.Mathlib.Numerals.{add-one}
+use lib.Dec.{eqb, leb, ltb}
+use lib.ListN.{length, getD, take, drop, length-append}
+use lib.Seq.{take-suc, take-all, split-at, length-take-le}
+use borrow.Author.Tests.{eqb-true, eqb-false, ltb-true, ltb-false, le-leb}
+use Rattle.kinds.specs.Limits.{textLimit, tokenLimit}
+use Rattle.plan.specs.Plan.{cells, print}
+use Rattle.plan.specs.Reading.{
+  Class,
+  OPERATOR,
+  OPEN,
+  CLOSE,
+  BRACE,
+  BLANK,
+  BAD,
+  class,
+  place,
+  Reading,
+  PLAN,
+  REFUSED,
+  fit,
+  read,
+  without-blanks,
+}
+use Rattle.plan.specs.Refusals.{
+  Faultless,
+  nothing,
+  blank,
+  an-operator,
+  opens,
+  closes,
+  Fault,
+  bad-byte,
+  unmatched,
+  Begins,
+  Row,
+  fault,
+  unclosed,
+  overfull,
+}
+use Rattle.plan.specs.declared.Refusal.{Refusal}
+use Rattle.plan.specs.declared.Refusal.the-variants.{BadByte, Unmatched, Unclosed, Overfull}
+use Rattle.plan.proofs.Blanks.{kept, dropped}
+use Rattle.plan.proofs.Classes.{clash}
+use Rattle.plan.proofs.Faultless.{faultless-then, blanks-then, open-blocks, begun-items, without-blanks-length}
+use Rattle.plan.proofs.Reached.{TextRead, text-read, text-fits}
+use Rattle.plan.proofs.Refusals.{row-refused}
+use Rattle.text.specs.Counting.{Small, one-item, deeper, opened, closed, stepped, finished, surveyed}
+use Rattle.text.specs.declared.reader.Count.{Count}
+use Rattle.text.specs.declared.reader.Step.{Step}
+use Rattle.text.specs.declared.reader.Step.the-variants.{On, Token, Stop}
+use Rattle.text.specs.declared.reader.Surveyed.{Surveyed}
+use Rattle.text.specs.declared.reader.Surveyed.the-variants.{Accepted, Refused}
+
+-- item number `room` begins at the place `first`
+pub record PastAt (text : List ℕ) (room first at : ℕ) : Type 0 where
+  pub deep : ℕ
+  pub clean : Faultless tokenLimit 0 (take first text) deep room
+  pub begins : Begins (class (getD text first 0))
+  pub before : first < at
+
+pub record Going (text : List ℕ) (room : ℕ) (n : Count) (at : ℕ) : Type 0 where
+  pub short : length text ≤ textLimit
+  pub within : at ≤ length text
+  pub clean : Faultless tokenLimit 0 (take at text) (n .depth) (n .cells)
+  pub keeps : length (without-blanks false (take at text)) ≡ n .length
+  pub past : room < n .cells → PastAt text room (n .past .0) at
+
+pub going-small : {text : List ℕ} {room at : ℕ} {n : Count} → Going text room n at → Small n
+going-small {text} {room} {at} g =
+    let whole = length-take-le at text (g .within) in
+    record {
+      depth = omega (arith, open-blocks (g .clean), g .within, g .short);
+      cells = omega (arith, begun-items (g .clean), g .within, g .short);
+      length = omega (arith, without-blanks-length false (take at text), g .keeps, g .within, g .short);
+    }
+
+-- the same with a further piece that holds no fault
+module _ {text : List ℕ} {room at : ℕ} {n : Count} (g : Going text room n at) (piece : List ℕ) (at′ : ℕ)
+    (joined : take at′ text ≡ take at text ++ piece) (later : at < at′) (within : at′ ≤ length text) where
+  cleaner : {d k : ℕ} → Faultless tokenLimit (n .depth) piece d k → Faultless tokenLimit 0 (take at′ text) d (n .cells + k)
+  cleaner f = rw joined (faultless-then (g .clean) f)
+
+  keeping : length (without-blanks false (take at′ text)) ≡ n .length + length (without-blanks false piece)
+  keeping =
+      ap (λ us. length (without-blanks false us)) joined ∙ ap length (blanks-then (g .clean) piece)
+      ∙ length-append (without-blanks false (take at text)) (without-blanks false piece)
+      ∙ ap (_+ length (without-blanks false piece)) (g .keeps)
+
+  still-past : room < n .cells → PastAt text room (n .past .0) at′
+  still-past h =
+      let p = g .past h in
+      record { deep = p .deep; clean = p .clean; begins = p .begins; before = omega (arith, p .before) }
+
+  -- no item begins in the piece
+  same-items : (d kept-bytes : ℕ) → Faultless tokenLimit (n .depth) piece d 0 → length (without-blanks false piece) ≡ kept-bytes
+      → Going text room (record { depth = d; cells = n .cells; length = n .length + kept-bytes; past = n .past }) at′
+  same-items d kept-bytes f k =
+      record {
+        short = g .short;
+        within = within;
+        clean = rw add-zero at (cleaner f);
+        keeps = keeping ∙ ap (n .length +_) k;
+        past = still-past;
+      }
+
+  -- one item begins, with the piece
+  pub item-more : (d bytes : ℕ) → Faultless tokenLimit (n .depth) piece d 1 → length (without-blanks false piece) ≡ bytes
+      → Begins (class (getD text at 0))
+      → Going text room (record { depth = d; cells = n .cells + 1; length = n .length + bytes; past = one-item n at room bytes .past }) at′
+  item-more d bytes f k begins =
+      record {
+        short = g .short;
+        within = within;
+        clean = cleaner f;
+        keeps = keeping ∙ ap (n .length +_) k;
+        past = go (eqb (n .cells) room) refl;
+      }
+    where
+      go : (t : Bool) → eqb (n .cells) room ≡ t → room < n .cells + 1 → PastAt text room (cond t (place at) (n .past) .0) at′
+      go true e h =
+          record { deep = n .depth; clean = rw (eqb-true (n .cells) room e) at (g .clean); begins = begins; before = later }
+      go false e h = still-past (let differ : n .cells ≢ room = eqb-false (n .cells) room e in omega arith)
+
+pub going-start : (text : List ℕ) (room : ℕ) (n : Count) → length text ≤ textLimit → n .depth ≡ 0 → n .cells ≡ 0 → n .length ≡ 0
+    → Going text room n 0
+unfolding without-blanks
+going-start text room n short d c l =
+    record {
+      short = short;
+      within = omega arith;
+      clean = rw (d, c) nothing;
+      keeps = sym l;
+      past = λ h. absurd (omega arith);
+    }
+
+on-injective : {n m : Count} → On n ≡ On m → n ≡ m
+on-injective e = cc
+
+stop-injective : {r s : Refusal} → Stop r ≡ Stop s → r ≡ s
+stop-injective e = cc
+
+stop-is-not-on : {A : Type 0} {r : Refusal} {n : Count} → Stop r ≡ On n → A
+stop-is-not-on e = absurd (let z : _≡_ {A = ℕ} 0 1 = cc in omega arith)
+
+pub token-is-not-on : {A : Type 0} {n : Count} → Token ≡ On n → A
+token-is-not-on e = absurd (let z : _≡_ {A = ℕ} 0 1 = cc in omega arith)
+
+pub token-is-not-stop : {A : Type 0} {r : Refusal} → Token ≡ Stop r → A
+token-is-not-stop e = absurd (let z : _≡_ {A = ℕ} 0 1 = cc in omega arith)
+
+-- the byte at the place
+module _ {text : List ℕ} {room at : ℕ} {n : Count} (g : Going text room n at) (inside : at < length text) where
+  abbrev here : ℕ
+  here = getD text at 0
+
+  one-further : take (at + 1) text ≡ take at text ++ here ∷ []
+  one-further = ap (λ k. take k text) (add-one at) ∙ take-suc text at 0 inside
+
+  on-by-class : (k : Class) → class here ≡ k → (m : Count) → stepped n k at room ≡ On m → Going text room m (at + 1)
+  unfolding stepped
+  on-by-class (OPERATOR o) c m e =
+      subst (λ x. Going text room x (at + 1)) (on-injective e)
+      (item-more g (here ∷ []) (at + 1) one-further (omega arith) (omega arith) (n .depth) 1 (an-operator c nothing)
+      (ap length (kept here (λ z. clash (sym c ∙ z) tt))) (rw c tt))
+  on-by-class OPEN c m e =
+      subst (λ x. Going text room x (at + 1)) (on-injective e)
+      (item-more g (here ∷ []) (at + 1) one-further (omega arith) (omega arith) (n .depth + 1) 1 (rw add-one (opens c nothing))
+      (ap length (kept here (λ z. clash (sym c ∙ z) tt))) (rw c tt))
+  on-by-class CLOSE c m e = go (eqb (n .depth) 0) refl e
+    where
+      go : (t : Bool) → eqb (n .depth) 0 ≡ t → cond t (Stop (Unmatched (place at))) (On (closed n)) ≡ On m → Going text room m (at + 1)
+      go true h e = stop-is-not-on e
+      go false h e =
+          let differ : n .depth ≢ 0 = eqb-false (n .depth) 0 h in
+          let deep : n .depth ≡ suc (n .depth - 1) = omega arith in
+          subst (λ x. Going text room x (at + 1)) (on-injective e)
+          (same-items g (here ∷ []) (at + 1) one-further (omega arith) (omega arith) (n .depth - 1) 1
+          (subst (λ d. Faultless tokenLimit d (here ∷ []) (n .depth - 1) 0) (sym deep) (closes c nothing))
+          (ap length (kept here (λ z. clash (sym c ∙ z) tt))))
+  on-by-class BRACE c m e = token-is-not-on e
+  on-by-class BLANK c m e =
+      let counted : Count → ℕ → Count = λ m l. record { depth = m .depth; cells = m .cells; length = l; past = m .past } in
+      subst (λ x. Going text room x (at + 1)) (ap (counted n) (add-zero (n .length)) ∙ on-injective e)
+      (same-items g (here ∷ []) (at + 1) one-further (omega arith) (omega arith) (n .depth) 0 (blank c nothing) (ap length (dropped here c)))
+  on-by-class BAD c m e = stop-is-not-on e
+
+  -- one byte that is no fault
+  pub going-on : (m : Count) → On m ≡ stepped n (class here) at room → Going text room m (at + 1)
+  going-on m e = on-by-class (class here) refl m (sym e)
+
+  -- a fault at this place is what reading refuses
+  pub refused-here : {r : Refusal} → Fault tokenLimit at here (drop (suc at) text) (n .depth) r → Refused r ≡ surveyed (read tokenLimit room text)
+  unfolding surveyed
+  refused-here {r} f =
+      rw (row-refused {limit = tokenLimit} {n = room}
+      (fault (take at text) (drop (suc at) text) here (split-at text at 0 inside) (g .clean)
+      (subst (λ k. Fault tokenLimit k here (drop (suc at) text) (n .depth) r) (sym (length-take-le at text (g .within))) f)))
+
+  stop-by-class : (k : Class) → class here ≡ k → (r : Refusal) → stepped n k at room ≡ Stop r → Refused r ≡ surveyed (read tokenLimit room text)
+  unfolding stepped
+  stop-by-class (OPERATOR o) c r e = stop-is-not-on (sym e)
+  stop-by-class OPEN c r e = stop-is-not-on (sym e)
+  stop-by-class CLOSE c r e = go (eqb (n .depth) 0) refl e
+    where
+      go : (t : Bool) → eqb (n .depth) 0 ≡ t → cond t (Stop (Unmatched (place at))) (On (closed n)) ≡ Stop r
+          → Refused r ≡ surveyed (read tokenLimit room text)
+      go true h e =
+          subst (λ s. Refused s ≡ surveyed (read tokenLimit room text)) (stop-injective e)
+          (refused-here (rw (eqb-true (n .depth) 0 h) (unmatched c)))
+      go false h e = stop-is-not-on (sym e)
+  stop-by-class BRACE c r e = token-is-not-stop e
+  stop-by-class BLANK c r e = stop-is-not-on (sym e)
+  stop-by-class BAD c r e =
+      subst (λ s. Refused s ≡ surveyed (read tokenLimit room text)) (stop-injective e) (refused-here (bad-byte c))
+
+  pub going-stop : (r : Refusal) → Stop r ≡ stepped n (class here) at room → Refused r ≡ surveyed (read tokenLimit room text)
+  going-stop r e = stop-by-class (class here) refl r (sym e)
+
+accepted : {limit k l : ℕ} {text : List ℕ} (room : ℕ) (t : TextRead limit text k) → k ≤ room → length (without-blanks false text) ≡ l
+    → Accepted k l ≡ surveyed (read limit room text)
+unfolding surveyed
+accepted room t h e = rw (text-fits room t h) (sym (ap₂ Accepted (t .counted) (ap length (t .printed) ∙ e)))
+
+-- the end of the text
+pub going-end : {text : List ℕ} {room at : ℕ} {n : Count} → Going text room n at → length text ≤ at
+    → finished n at room ≡ surveyed (read tokenLimit room text)
+unfolding finished surveyed
+going-end {text} {room} {at} {n} g ended = go (ltb 0 (n .depth)) refl (ltb room (n .cells)) refl
+  where
+    end : at ≡ length text
+    end = omega (arith, g .within)
+
+    whole : Faultless tokenLimit 0 text (n .depth) (n .cells)
+    whole = rw (take-all at text ended) at (g .clean)
+
+    none-open : ltb 0 (n .depth) ≡ false → Faultless tokenLimit 0 text 0 (n .cells)
+    none-open h = let closed-all : n .depth ≡ 0 = (let some = ltb-false 0 (n .depth) h in omega arith) in rw closed-all at whole
+
+    go : (s : Bool) → ltb 0 (n .depth) ≡ s → (t : Bool) → ltb room (n .cells) ≡ t
+        → cond s (Refused (Unclosed (place at))) (cond t (Refused (Overfull (n .past))) (Accepted (n .cells) (n .length)))
+        ≡ surveyed (read tokenLimit room text)
+    go true h t g′ =
+        let deep : n .depth ≡ suc (n .depth - 1) = (let some-open = ltb-true 0 (n .depth) h in omega arith) in
+        rw (row-refused {limit = tokenLimit} {n = room} (unclosed (rw deep at whole))) (ap (λ k. Refused (Unclosed (place k))) end)
+    go false h true g′ =
+        let p = g .past (ltb-true room (n .cells) g′) in
+        let first = n .past .0 in
+        let inside : first < length text = omega (arith, p .before, g .within) in
+        rw (row-refused {limit = tokenLimit} {n = room}
+        (overfull (take first text) (drop (suc first) text) (getD text first 0) (split-at text first 0 inside) (p .clean) (p .begins) (none-open h)))
+        (ap (λ k. Refused (Overfull (place k))) (sym (length-take-le first text (omega arith))))
+    go false h false g′ =
+        accepted room (text-read (none-open h)) (ltb-false room (n .cells) g′) (ap (λ us. length (without-blanks false us)) (sym (take-all at text ended)) ∙ g .keeps)

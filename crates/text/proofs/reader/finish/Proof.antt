@@ -1,0 +1,20 @@
+-- `finish`: 16 before 17, else the counts.
+use borrow.Author.Needs.{needs}
+use Rattle.text.proofs.Counted.{end-open, end-past, end-within}
+use Rattle.text.proofs.reader.finish.Statement.{statement}
+use Rattle.text.proofs.reader.finish.Tie as tie
+
+new-requires : tie.Need-new-requires
+new-requires c κs = search needs
+
+returns : tie.Need-returns
+returns c = search (needs, end-open)
+
+returns-2 : tie.Need-returns-2
+returns-2 c = search (needs, end-past)
+
+returns-3 : tie.Need-returns-3
+returns-3 c = search (needs, end-within)
+
+pub finish-spec : {M : Type 1} → statement M
+finish-spec = tie.close (tie.spec new-requires returns returns-2 returns-3)

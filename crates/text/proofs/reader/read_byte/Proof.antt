@@ -1,0 +1,54 @@
+-- `read_byte`: the class number says which case of the definition it is.
+use borrow.Author.Needs.{needs}
+use Rattle.text.proofs.Counted.{step-operator, step-open, step-close, step-brace, step-blank, step-bad}
+use Rattle.text.proofs.reader.read_byte.Statement.{statement}
+use Rattle.text.proofs.reader.read_byte.Tie as tie
+
+class-of-requires : tie.Need-class-of-requires
+class-of-requires c κs = search needs
+
+one-item-requires : tie.Need-one-item-requires
+one-item-requires c κs = search needs
+
+returns : tie.Need-returns
+returns c = search (needs, step-operator)
+
+open-block-requires : tie.Need-open-block-requires
+open-block-requires c κs = search needs
+
+returns-2 : tie.Need-returns-2
+returns-2 c = search (needs, step-open)
+
+close-block-requires : tie.Need-close-block-requires
+close-block-requires c κs = search needs
+
+returns-3 : tie.Need-returns-3
+returns-3 c = search (needs, step-close)
+
+returns-4 : tie.Need-returns-4
+returns-4 c = search (needs, step-brace)
+
+returns-5 : tie.Need-returns-5
+returns-5 c = search (needs, step-blank)
+
+new-requires : tie.Need-new-requires
+new-requires c κs = search needs
+
+returns-6 : tie.Need-returns-6
+returns-6 c = search (needs, step-bad)
+
+pub read-byte-spec : {M : Type 1} → statement M
+read-byte-spec =
+    tie.close
+    (tie.spec
+    class-of-requires
+    one-item-requires
+    returns
+    open-block-requires
+    returns-2
+    close-block-requires
+    returns-3
+    returns-4
+    returns-5
+    new-requires
+    returns-6)

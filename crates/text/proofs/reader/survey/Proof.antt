@@ -1,0 +1,197 @@
+-- `survey`: the outer loop knows that the bytes passed hold no fault and what was counted of them, the inner one that the
+-- token's bytes so far are whole characters that it may hold. Both come nearer to the end of the text with each turn.
+use Prim.Native.Nat.{_-_}
+use mathlib.Core.Path.{refl, sym, _∙_, ap}
+use lib.ListN.{length}
+use native.Mathlib.Omega.{arith}
+use borrow.Author.Needs.{needs}
+use Rattle.plan.specs.Reading.{place}
+use Rattle.plan.specs.declared.Refusal.the-variants.{BadToken}
+use Rattle.text.specs.declared.reader.Surveyed.the-variants.{Refused}
+use Rattle.text.proofs.Going.{Going, going-start, going-small, going-on, going-stop, going-end}
+use Rattle.text.proofs.Inside.{Inside, inside-start, inside-further, inside-bad, inside-close}
+use Rattle.text.proofs.reader.survey.Statement.{statement}
+use Rattle.text.proofs.reader.survey.Tie as tie
+
+abbrev Inv-loop : tie.InvT-loop
+Inv-loop text room count at end₀ end = Inside text room count at end
+
+abbrev μ-loop : tie.MeasureT-loop
+μ-loop text room count at end₀ end = length text - end
+
+abbrev Inv-items : tie.InvT-items
+Inv-items text room count₀ at₀ count at = Going text room count at
+
+abbrev μ-items : tie.MeasureT-items
+μ-items text room count₀ at₀ count at = length text - at
+
+new-requires : tie.Need-new-requires Inv-loop μ-loop Inv-items μ-items
+new-requires c κs = search needs
+
+items-holds : tie.Need-items-holds Inv-loop μ-loop Inv-items μ-items
+items-holds c =
+    going-start _ _ _ (c .before .before .pre) refl refl refl
+
+finish-requires : tie.Need-finish-requires Inv-loop μ-loop Inv-items μ-items
+finish-requires c κs = search needs
+
+returns : tie.Need-returns Inv-loop μ-loop Inv-items μ-items
+returns c =
+    c .finish .ensures ∙ going-end (c .before .before .items .inv) (c .before .if1 .taken)
+
+shared-slice-read-read-byte :
+    tie.Need-shared-slice-read-read-byte Inv-loop μ-loop Inv-items μ-items
+shared-slice-read-read-byte c = search needs
+
+read-byte-requires : tie.Need-read-byte-requires Inv-loop μ-loop Inv-items μ-items
+read-byte-requires c κs =
+    let g = c .before .before .items .inv in
+    (going-small g, omega (arith, g .within, g .short))
+
+enum-known-next : tie.Need-enum-known-next Inv-loop μ-loop Inv-items μ-items
+enum-known-next c = search needs
+
+add-at : tie.Need-add-at Inv-loop μ-loop Inv-items μ-items
+add-at c = search needs
+
+items-less : tie.Need-items-less Inv-loop μ-loop Inv-items μ-items
+items-less c = search needs
+
+items-again : tie.Need-items-again Inv-loop μ-loop Inv-items μ-items
+items-again c =
+    let r = c .before .before .before in
+    let e = r .before .before in
+    going-on (e .before .items .inv) (e .if1 .left) _ (sym (c .before .next .given .1) ∙ r .read-byte .ensures)
+
+enum-known-refusal : tie.Need-enum-known-refusal Inv-loop μ-loop Inv-items μ-items
+enum-known-refusal c = search needs
+
+enum-told : tie.Need-enum-told Inv-loop μ-loop Inv-items μ-items
+enum-told c = search needs
+
+add-end : tie.Need-add-end Inv-loop μ-loop Inv-items μ-items
+add-end c = search needs
+
+loop-holds : tie.Need-loop-holds Inv-loop μ-loop Inv-items μ-items
+loop-holds c =
+    let r = c .before .before in
+    let e = r .before .before in
+    inside-start (e .before .items .inv) (e .if1 .left) (sym (c .enum-told .given .1) ∙ r .read-byte .ensures)
+
+sub-token-byte : tie.Need-sub-token-byte Inv-loop μ-loop Inv-items μ-items
+sub-token-byte c = search needs
+
+sub-token-byte-2 : tie.Need-sub-token-byte-2 Inv-loop μ-loop Inv-items μ-items
+sub-token-byte-2 c = search needs
+
+token-byte-requires : tie.Need-token-byte-requires Inv-loop μ-loop Inv-items μ-items
+token-byte-requires c κs = search needs
+
+enum-known-width : tie.Need-enum-known-width Inv-loop μ-loop Inv-items μ-items
+enum-known-width c = search needs
+
+cast-end : tie.Need-cast-end Inv-loop μ-loop Inv-items μ-items
+cast-end c = search needs
+
+add-end-2 : tie.Need-add-end-2 Inv-loop μ-loop Inv-items μ-items
+add-end-2 c = search needs
+
+loop-less : tie.Need-loop-less Inv-loop μ-loop Inv-items μ-items
+loop-less c =
+    let t = c .before .before .before in
+    let f = inside-further (t .before .loop .inv) _ (sym (c .before .width .given .1) ∙ t .token-byte .ensures) in
+    omega (arith, f .0, f .1 .within)
+
+loop-again : tie.Need-loop-again Inv-loop μ-loop Inv-items μ-items
+loop-again c =
+    let t = c .before .before .before in
+    inside-further (t .before .loop .inv) _ (sym (c .before .width .given .1) ∙ t .token-byte .ensures) .1
+
+enum-told-2 : tie.Need-enum-told-2 Inv-loop μ-loop Inv-items μ-items
+enum-told-2 c = search needs
+
+enum-told-3 : tie.Need-enum-told-3 Inv-loop μ-loop Inv-items μ-items
+enum-told-3 c = search needs
+
+new-requires-2 : tie.Need-new-requires-2 Inv-loop μ-loop Inv-items μ-items
+new-requires-2 c κs = search needs
+
+add-one-item : tie.Need-add-one-item Inv-loop μ-loop Inv-items μ-items
+add-one-item c = search needs
+
+sub-one-item : tie.Need-sub-one-item Inv-loop μ-loop Inv-items μ-items
+sub-one-item c = search needs
+
+cast-one-item : tie.Need-cast-one-item Inv-loop μ-loop Inv-items μ-items
+cast-one-item c = search needs
+
+one-item-requires : tie.Need-one-item-requires Inv-loop μ-loop Inv-items μ-items
+one-item-requires c κs =
+    let i = c .before .before .before .loop .inv in
+    (going-small (i .going), omega (arith, i .going .within, i .going .short), omega (arith, i .few, i .ahead))
+
+add-at-2 : tie.Need-add-at-2 Inv-loop μ-loop Inv-items μ-items
+add-at-2 c = search needs
+
+items-less-2 : tie.Need-items-less-2 Inv-loop μ-loop Inv-items μ-items
+items-less-2 c = search needs
+
+items-again-2 : tie.Need-items-again-2 Inv-loop μ-loop Inv-items μ-items
+items-again-2 c =
+    let t = c .before .before .before in
+    inside-close (t .before .loop .inv) _ (sym (c .before .enum-told2 .given .1) ∙ t .token-byte .ensures) (c .one-item .ensures) .1
+
+returns-2 : tie.Need-returns-2 Inv-loop μ-loop Inv-items μ-items
+returns-2 c =
+    let r = c .before .before .before in
+    let e = r .before .before in
+    going-stop (e .before .items .inv) (e .if1 .left) _ (sym (c .before .refusal .given .1) ∙ r .read-byte .ensures)
+
+returns-3 : tie.Need-returns-3 Inv-loop μ-loop Inv-items μ-items
+returns-3 c =
+    let t = c .before .before .before in
+    ap (λ k. Refused (BadToken (place k))) (c .new2 .ensures)
+    ∙ inside-bad (t .before .loop .inv) (sym (c .before .enum-told3 .given .1) ∙ t .token-byte .ensures)
+
+pub survey-spec : {M : Type 1} → statement M
+survey-spec =
+    tie.close
+    (tie.spec
+    Inv-loop
+    μ-loop
+    Inv-items
+    μ-items
+    new-requires
+    items-holds
+    finish-requires
+    returns
+    shared-slice-read-read-byte
+    read-byte-requires
+    enum-known-next
+    add-at
+    items-less
+    items-again
+    enum-known-refusal
+    enum-told
+    add-end
+    loop-holds
+    sub-token-byte
+    sub-token-byte-2
+    token-byte-requires
+    enum-known-width
+    cast-end
+    add-end-2
+    loop-less
+    loop-again
+    enum-told-2
+    enum-told-3
+    new-requires-2
+    add-one-item
+    sub-one-item
+    cast-one-item
+    one-item-requires
+    add-at-2
+    items-less-2
+    items-again-2
+    returns-2
+    returns-3)

@@ -1,0 +1,71 @@
+-- What the reader counts: the meaning of its leaves, each one equation. The laws in proofs/ tie them to reading.
+use Prim.Native.Nat.{ℕ, _+_, _-_, _<_, _≤_}
+use mathlib.Core.Bool.{cond}
+use lib.Dec.{leb, ltb, eqb}
+use lib.ListN.{length}
+use Rattle.kinds.specs.Limits.{textLimit}
+use Rattle.plan.specs.Plan.{cells, print, close-brace}
+use Rattle.plan.specs.Token.{may-hold}
+use Rattle.plan.specs.Reading.{Class, OPERATOR, OPEN, CLOSE, BRACE, BLANK, BAD, Reading, PLAN, REFUSED, place}
+use Rattle.plan.specs.declared.Character.{Character}
+use Rattle.plan.specs.declared.Character.the-variants.{Whole, Malformed}
+use Rattle.plan.specs.declared.Refusal.the-variants.{BadByte, Unmatched, Unclosed, Overfull}
+use Rattle.text.specs.declared.reader.Count.{Count}
+use Rattle.text.specs.declared.reader.InToken.{InToken}
+use Rattle.text.specs.declared.reader.InToken.the-variants.{Further, Close, Bad}
+use Rattle.text.specs.declared.reader.Step.{Step}
+use Rattle.text.specs.declared.reader.Step.the-variants.{On, Token, Stop}
+use Rattle.text.specs.declared.reader.Surveyed.{Surveyed}
+use Rattle.text.specs.declared.reader.Surveyed.the-variants.{Accepted, Refused}
+
+-- counts that one more byte cannot push over a u32
+pub record Small (n : Count) : Type 0 where
+  pub depth : n .depth ≤ textLimit
+  pub cells : n .cells ≤ textLimit
+  pub length : n .length ≤ textLimit
+
+-- an item of so many bytes; item number `room`, from 0, is the first past the room
+abbrev pub one-item : Count → (at room bytes : ℕ) → Count
+one-item n at room bytes =
+    record {
+      depth = n .depth;
+      cells = n .cells + 1;
+      length = n .length + bytes;
+      past = cond (eqb (n .cells) room) (place at) (n .past);
+    }
+
+abbrev pub deeper : Count → Count
+deeper n = record { depth = n .depth + 1; cells = n .cells; length = n .length; past = n .past }
+
+abbrev pub opened : Count → (at room : ℕ) → Count
+opened n at room = deeper (one-item n at room 1)
+
+abbrev pub closed : Count → Count
+closed n = record { depth = n .depth - 1; cells = n .cells; length = n .length + 1; past = n .past }
+
+-- one byte outside tokens, by its class
+unfoldable pub stepped : Count → Class → (at room : ℕ) → Step
+stepped n (OPERATOR o) at room = On (one-item n at room 1)
+stepped n OPEN at room = On (opened n at room)
+stepped n CLOSE at room = cond (eqb (n .depth) 0) (Stop (Unmatched (place at))) (On (closed n))
+stepped n BRACE at room = Token
+stepped n BLANK at room = On n
+stepped n BAD at room = Stop (BadByte (place at))
+
+-- the next character of a token of which `taken` bytes are read: its `}`, a character that it may hold, or a fault
+unfoldable pub in-token : (limit taken : ℕ) → Character → InToken
+in-token limit taken Malformed = Bad
+in-token limit taken (Whole v width) =
+    cond (eqb v close-brace) (cond (eqb taken 0) Bad Close)
+    (cond (ltb limit (taken + width + 2)) Bad (cond (may-hold v) (Further width) Bad))
+
+-- the end of the text
+unfoldable pub finished : Count → (at room : ℕ) → Surveyed
+finished n at room =
+    cond (ltb 0 (n .depth)) (Refused (Unclosed (place at)))
+    (cond (ltb room (n .cells)) (Refused (Overfull (n .past))) (Accepted (n .cells) (n .length)))
+
+-- what a survey says of what reading says
+unfoldable pub surveyed : Reading → Surveyed
+surveyed (PLAN p) = Accepted (cells p) (length (print p))
+surveyed (REFUSED r) = Refused r

@@ -1,0 +1,200 @@
+// Reads a text from left to right and counts; no memory is lent. An outer loop over items and an inner loop over a
+// token's bytes, left by a label at the first fault. Counting goes on past the room for cells, since the faults of the
+// text come before a plan that is too large.
+ghost use mathlib.Core.Path.{_≡_};
+ghost use Prim.Native.Nat.{_<_, _≤_};
+ghost use lib.ListN.{length, drop};
+ghost use Rattle.kinds.specs.Limits.{textLimit, tokenLimit};
+ghost use Rattle.plan.specs.Token.{character};
+ghost use Rattle.plan.specs.Reading.{CLOSE, class, read};
+ghost use Rattle.text.specs.Counting.{Small, one-item, opened, stepped, in-token, finished, surveyed};
+use crate::character_at;
+use crate::class_of;
+use crate::may_hold;
+use kinds::Place;
+use kinds::Token;
+use plan::Character;
+use plan::Refusal;
+
+// What was counted so far: blocks open, items begun, bytes that will be printed, and the place of the first item past
+// the room, once there is one.
+pub struct Count {
+    pub depth: u32,
+    pub cells: u32,
+    pub length: u32,
+    pub past: Place,
+}
+
+// What one byte outside tokens does.
+pub enum Step {
+    On(Count),
+    Token,
+    Stop(Refusal),
+}
+
+// What the next byte of a token begins: a character that the token may hold, its end, or a fault.
+pub enum InToken {
+    Further(u32),
+    Close,
+    Bad,
+}
+
+// What a text is found to be.
+pub enum Surveyed {
+    Accepted { cells: u32, length: u32 },
+    Refused(Refusal),
+}
+
+// One item more, of so many bytes outside its block's contents.
+fn one_item(count: Count, at: usize, room: u32, bytes: u32) -> Count
+    requires { ⌜ Small count × (at ≤ textLimit) × (bytes ≤ tokenLimit) ⌝ }
+    ensures { λ r. ⌜ r ≡ one-item count at room bytes ⌝ }
+{
+    let cells = count.cells;
+    let past = count.past;
+    if cells == room {
+        return Count {
+            depth: count.depth,
+            cells: cells + 1,
+            length: count.length + bytes,
+            past: Place::new(at),
+        };
+    }
+    Count {
+        depth: count.depth,
+        cells: cells + 1,
+        length: count.length + bytes,
+        past,
+    }
+}
+
+fn open_block(count: Count, at: usize, room: u32) -> Count
+    requires { ⌜ Small count × (at ≤ textLimit) ⌝ }
+    ensures { λ r. ⌜ r ≡ opened count at room ⌝ }
+{
+    let item = one_item(count, at, room, 1);
+    let past = item.past;
+    Count {
+        depth: item.depth + 1,
+        cells: item.cells,
+        length: item.length,
+        past,
+    }
+}
+
+fn close_block(count: Count, at: usize, room: u32) -> Step
+    requires { ⌜ Small count × (at ≤ textLimit) ⌝ }
+    ensures { λ r. ⌜ r ≡ stepped count CLOSE at room ⌝ }
+{
+    if count.depth == 0 {
+        return Step::Stop(Refusal::Unmatched(Place::new(at)));
+    }
+    let past = count.past;
+    Step::On(Count {
+        depth: count.depth - 1,
+        cells: count.cells,
+        length: count.length + 1,
+        past,
+    })
+}
+
+fn read_byte(count: Count, byte: u8, at: usize, room: u32) -> Step
+    requires { ⌜ Small count × (at ≤ textLimit) ⌝ }
+    ensures { λ r. ⌜ r ≡ stepped count (class byte) at room ⌝ }
+{
+    let class = class_of(byte);
+    if class < 4 {
+        return Step::On(one_item(count, at, room, 1));
+    }
+    if class == 4 {
+        return Step::On(open_block(count, at, room));
+    }
+    if class == 5 {
+        return close_block(count, at, room);
+    }
+    if class == 6 {
+        return Step::Token;
+    }
+    if class == 7 {
+        return Step::On(count);
+    }
+    Step::Stop(Refusal::BadByte(Place::new(at)))
+}
+
+fn token_byte(text: &[u8], at: usize, taken: usize) -> InToken
+    requires { ⌜ taken ≤ tokenLimit ⌝ }
+    ensures { λ r. ⌜ r ≡ in-token tokenLimit taken (character (drop at (now (text .entry)))) ⌝ }
+{
+    let Character::Whole { value, width } = character_at(text, at) else {
+        return InToken::Bad;
+    };
+    if value == 125 {
+        if taken == 0 {
+            return InToken::Bad;
+        }
+        return InToken::Close;
+    }
+    if Token::LIMIT < taken + width as usize + 2 {
+        return InToken::Bad;
+    }
+    if may_hold(value) {
+        return InToken::Further(width);
+    }
+    InToken::Bad
+}
+
+// The end of the text.
+fn finish(count: Count, at: usize, room: u32) -> Surveyed
+    requires { ⌜ at ≤ textLimit ⌝ }
+    ensures { λ r. ⌜ r ≡ finished count at room ⌝ }
+{
+    if 0 < count.depth {
+        return Surveyed::Refused(Refusal::Unclosed(Place::new(at)));
+    }
+    let past = count.past;
+    if room < count.cells {
+        return Surveyed::Refused(Refusal::Overfull(past));
+    }
+    Surveyed::Accepted {
+        cells: count.cells,
+        length: count.length,
+    }
+}
+
+pub fn survey(text: &[u8], room: u32) -> Surveyed
+    requires { ⌜ length (now text) ≤ textLimit ⌝ }
+    ensures { λ r. ⌜ r ≡ surveyed (read tokenLimit room (now (text .entry))) ⌝ }
+{
+    let mut count = Count {
+        depth: 0,
+        cells: 0,
+        length: 0,
+        past: Place::new(0),
+    };
+    let mut at: usize = 0;
+    let refusal = 'items: loop {
+        if text.len() <= at {
+            return finish(count, at, room);
+        }
+        match read_byte(count, text[at], at, room) {
+            Step::On(next) => {
+                count = next;
+                at += 1;
+            }
+            Step::Stop(refusal) => break 'items refusal,
+            Step::Token => {
+                let mut end = at + 1;
+                loop {
+                    match token_byte(text, end, end - at - 1) {
+                        InToken::Further(width) => end += width as usize,
+                        InToken::Close => break,
+                        InToken::Bad => break 'items Refusal::BadToken(Place::new(at)),
+                    }
+                }
+                count = one_item(count, at, room, (end + 1 - at) as u32);
+                at = end + 1;
+            }
+        }
+    };
+    Surveyed::Refused(refusal)
+}
