@@ -1,0 +1,101 @@
+-- What a survey says of an acceptable text is what CHECK and TIDY answer.
+use Prim.Native.Nat.{ℕ, _≤_, _<_}
+use mathlib.Core.Path.{_≡_, refl, ap, ap₂, sym, _∙_}
+use mathlib.Core.Bool.{false}
+use mathlib.Core.List.{List, _++_}
+use native.Mathlib.Omega.{arith}
+use lib.ListN.{length, drop}
+use borrow.Author.Tests.{lt-ltb, le-ltb}
+use Rattle.kinds.specs.Limits.{cellLimit, textLimit, tokenLimit}
+use Rattle.plan.specs.Plan.{Plan, cells, print}
+use Rattle.plan.specs.Reading.{Reading, PLAN, REFUSED, read, without-blanks}
+use Rattle.plan.specs.Services.{
+  GIVES,
+  REFUSES,
+  Written,
+  accept,
+  answer-of,
+  as-read,
+  check,
+  reads,
+  standard,
+  tidy,
+  write,
+}
+use Rattle.plan.specs.declared.Answer.{Answer}
+use Rattle.plan.specs.declared.Answer.the-variants.{Read, Refused}
+use Rattle.plan.specs.declared.Refusal.{Refusal}
+use Rattle.plan.specs.declared.Refusal.the-variants.{OutShort, TooLong}
+use Rattle.plan.proofs.Answers.{write-fits, write-short}
+use Rattle.plan.proofs.ReadBack.{read-accepted}
+use Rattle.plan.proofs.Slots.{accepted-text}
+use Rattle.text.specs.Counting.{surveyed}
+use Rattle.text.specs.Tidy.{written}
+use Rattle.text.specs.declared.reader.Surveyed.{Surveyed}
+use Rattle.text.specs.declared.reader.Surveyed.the-variants.{Accepted, Refused as RefusedText}
+
+module _ (text : List ℕ) where
+  pub too-long : textLimit < length text → RefusedText TooLong ≡ surveyed (accept standard cellLimit text)
+  unfolding accept surveyed
+  too-long h = rw (lt-ltb textLimit (length text) h)
+
+  pub short-enough : {s : Surveyed} → length text ≤ textLimit → s ≡ surveyed (read tokenLimit cellLimit text)
+      → s ≡ surveyed (accept standard cellLimit text)
+  unfolding accept
+  short-enough h e = rw (le-ltb textLimit (length text) h) e
+
+  module _ {s : Surveyed} (found : s ≡ surveyed (accept standard cellLimit text)) where
+    reads-refused : {r : Refusal} → s ≡ RefusedText r → reads standard text ≡ REFUSES r
+    unfolding reads as-read surveyed
+    reads-refused {r} e = go (accept standard cellLimit text) (sym found ∙ e)
+      where
+        go : (x : Reading) → surveyed x ≡ RefusedText r → as-read x ≡ REFUSES r
+        go (REFUSED q) h = ap REFUSES (let same : q ≡ r = cc in same)
+        go (PLAN p) h = absurd (let z : _≡_ {A = ℕ} 0 1 = cc in omega arith)
+
+    reads-accepted : {c l : ℕ} → s ≡ Accepted c l
+        → (reads standard text ≡ GIVES (Read c l) (without-blanks false text)) × (length (without-blanks false text) ≡ l)
+    unfolding reads as-read surveyed
+    reads-accepted {c} {l} e = go (accept standard cellLimit text) refl (sym found ∙ e)
+      where
+        go : (x : Reading) → accept standard cellLimit text ≡ x → surveyed x ≡ Accepted c l
+            → (as-read x ≡ GIVES (Read c l) (without-blanks false text)) × (length (without-blanks false text) ≡ l)
+        go (REFUSED q) a h = absurd (let z : _≡_ {A = ℕ} 0 1 = cc in omega arith)
+        go (PLAN p) a h =
+            let printed = read-accepted tokenLimit cellLimit text (accepted-text standard cellLimit text a .reads) .printed in
+            let counted : cells p ≡ c = cc in
+            let sized : length (print p) ≡ l = cc in
+            (ap₂ GIVES (ap₂ Read counted sized) printed, ap length (sym printed) ∙ sized)
+
+    pub check-refused : {r : Refusal} → s ≡ RefusedText r → Refused r ≡ check standard text
+    unfolding check answer-of
+    check-refused e = rw (reads-refused e)
+
+    pub check-accepted : {c l : ℕ} → s ≡ Accepted c l → Read c l ≡ check standard text
+    unfolding check answer-of
+    check-accepted e = rw (reads-accepted e .0)
+
+    pub tidy-refused : {r : Refusal} (out : List ℕ) → s ≡ RefusedText r
+        → (Refused r ≡ tidy standard text out .answer) × (out ≡ tidy standard text out .output)
+    unfolding tidy write
+    tidy-refused out e = rw (reads-refused e) (refl, refl)
+
+    -- a text that is found acceptable, and its length without blanks
+    module _ {c l : ℕ} (out : List ℕ) (e : s ≡ Accepted c l) where
+      pub tidy-fits : l ≤ length out → length (without-blanks false text) ≤ length out
+      tidy-fits h = omega (arith, reads-accepted e .1)
+
+      pub tidy-short : length out < l
+          → (Refused (OutShort l) ≡ tidy standard text out .answer) × (out ≡ tidy standard text out .output)
+      unfolding tidy
+      tidy-short h =
+          let r = reads-accepted e in
+          rw (r .0, write-short (Read c l) (without-blanks false text) out (omega (arith, r .1)))
+          (ap (λ k. Refused (OutShort k)) (sym (r .1)), refl)
+
+      pub tidy-written : l ≤ length out
+          → (Read c l ≡ tidy standard text out .answer) × (written (without-blanks false text) out ≡ tidy standard text out .output)
+      unfolding tidy
+      tidy-written h =
+          let r = reads-accepted e in
+          rw (r .0, write-fits (Read c l) (without-blanks false text) out (omega (arith, r .1))) (refl, refl)

@@ -1,0 +1,55 @@
+-- `tidy`: a refusal, 18, or the text without its blanks in front of an output that is otherwise as it was.
+use mathlib.Core.Path.{_∙_}
+use borrow.Author.Needs.{needs}
+use Rattle.services.proofs.Acceptance.{tidy-fits, tidy-refused, tidy-short, tidy-written}
+use Rattle.services.proofs.tidy.Statement.{statement}
+use Rattle.services.proofs.tidy.Tie as tie
+
+look-over-requires : tie.Need-look-over-requires
+look-over-requires c κs = search needs
+
+enum-known-refusal : tie.Need-enum-known-refusal
+enum-known-refusal c = search needs
+
+enum-known-cells : tie.Need-enum-known-cells
+enum-known-cells c = search needs
+
+cast-if1 : tie.Need-cast-if1
+cast-if1 c = search needs
+
+returns : tie.Need-returns
+returns c =
+    let k = c .before .before in
+    tidy-short _ (k .before .before .look-over .ensures) _ (k .cells .given .1) (c .if1 .taken)
+
+put-tidied-requires : tie.Need-put-tidied-requires
+put-tidied-requires c κs = search (needs, tidy-fits)
+
+returns-2 : tie.Need-returns-2
+returns-2 c =
+    tidy-refused _ (c .before .before .before .look-over .ensures) _ (c .before .refusal .given .1)
+
+same-length : tie.Need-same-length
+same-length c = search needs
+
+returns-3 : tie.Need-returns-3
+returns-3 c =
+    let p = c .before .before in
+    let e = p .before .before in
+    let k = e .before .before in
+    let w = tidy-written _ (k .before .before .look-over .ensures) _ (k .cells .given .1) (e .if1 .left) in
+    (w .0, p .put-tidied .ensures ∙ w .1)
+
+pub tidy-spec : {M : Type 1} → statement M
+tidy-spec =
+    tie.close
+    (tie.spec
+    look-over-requires
+    enum-known-refusal
+    enum-known-cells
+    cast-if1
+    returns
+    put-tidied-requires
+    returns-2
+    same-length
+    returns-3)
