@@ -29,10 +29,10 @@ use Rattle.plan.specs.declared.Refusal.the-variants.{OutShort, TooLong}
 use Rattle.plan.proofs.Answers.{write-fits, write-short}
 use Rattle.plan.proofs.ReadBack.{read-accepted}
 use Rattle.plan.proofs.Slots.{accepted-text}
-use Rattle.text.specs.Counting.{surveyed}
+use Rattle.reader.specs.Counting.{surveyed}
 use Rattle.text.specs.Tidy.{written}
-use Rattle.text.specs.declared.reader.Surveyed.{Surveyed}
-use Rattle.text.specs.declared.reader.Surveyed.the-variants.{Accepted, Refused as RefusedText}
+use Rattle.reader.specs.declared.Surveyed.{Surveyed}
+use Rattle.reader.specs.declared.Surveyed.the-variants.{Accepted, Refused as RefusedText}
 
 module _ (text : List ℕ) where
   pub too-long : textLimit < length text → RefusedText TooLong ≡ surveyed (accept standard cellLimit text)

@@ -3,14 +3,14 @@
 ghost use mathlib.Core.Path.{_≡_};
 ghost use Rattle.kinds.specs.Limits.{cellLimit};
 ghost use Rattle.plan.specs.Services.{accept, check, standard, tidy};
-ghost use Rattle.text.specs.Counting.{surveyed};
+ghost use Rattle.reader.specs.Counting.{surveyed};
 use kinds::Cell;
 use kinds::Place;
 use plan::Answer;
 use plan::Refusal;
-use text::Surveyed;
+use reader::Surveyed;
+use reader::survey;
 use text::put_tidied;
-use text::survey;
 
 // Whether a text is acceptable to CHECK and TIDY, which lend no memory.
 fn look_over(text: &[u8]) -> Surveyed

@@ -1,9 +1,5 @@
 pub mod Characters
-pub mod Counted
-pub mod Going
 pub mod Held
-pub mod Inside
-pub mod Scanned
 pub mod Table
 pub mod Tidied
 pub mod Values

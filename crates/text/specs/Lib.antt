@@ -1,4 +1,3 @@
 pub mod Classes
 pub mod Continued
-pub mod Counting
 pub mod Tidy

@@ -9,14 +9,8 @@ ghost use Rattle.text.specs.Continued.{continued, Room};
 use plan::Character;
 
 mod classes;
-mod reader;
 mod tidy;
 
-pub use reader::Count;
-pub use reader::InToken;
-pub use reader::Step;
-pub use reader::Surveyed;
-pub use reader::survey;
 pub use tidy::put_tidied;
 
 // The class number of a byte outside tokens.

@@ -7,11 +7,11 @@ use native.Mathlib.Omega.{arith}
 use borrow.Author.Needs.{needs}
 use Rattle.plan.specs.Reading.{place}
 use Rattle.plan.specs.declared.Refusal.the-variants.{BadToken}
-use Rattle.text.specs.declared.reader.Surveyed.the-variants.{Refused}
-use Rattle.text.proofs.Going.{Going, going-start, going-small, going-on, going-stop, going-end}
-use Rattle.text.proofs.Inside.{Inside, inside-start, inside-further, inside-bad, inside-close}
-use Rattle.text.proofs.reader.survey.Statement.{statement}
-use Rattle.text.proofs.reader.survey.Tie as tie
+use Rattle.reader.specs.declared.Surveyed.the-variants.{Refused}
+use Rattle.reader.proofs.Going.{Going, going-start, going-small, going-on, going-stop, going-end}
+use Rattle.reader.proofs.Inside.{Inside, inside-start, inside-further, inside-bad, inside-close}
+use Rattle.reader.proofs.survey.Statement.{statement}
+use Rattle.reader.proofs.survey.Tie as tie
 
 abbrev Inv-loop : tie.InvT-loop
 Inv-loop text room count at end₀ end = Inside text room count at end

@@ -1,8 +1,8 @@
 -- `finish`: 16 before 17, else the counts.
 use borrow.Author.Needs.{needs}
-use Rattle.text.proofs.Counted.{end-open, end-past, end-within}
-use Rattle.text.proofs.reader.finish.Statement.{statement}
-use Rattle.text.proofs.reader.finish.Tie as tie
+use Rattle.reader.proofs.Counted.{end-open, end-past, end-within}
+use Rattle.reader.proofs.finish.Statement.{statement}
+use Rattle.reader.proofs.finish.Tie as tie
 
 new-requires : tie.Need-new-requires
 new-requires c κs = search needs

@@ -1,8 +1,8 @@
 -- `close_block`: a `]` with no block open is a fault; else one block fewer is open.
 use borrow.Author.Needs.{needs}
-use Rattle.text.proofs.Counted.{close-unmatched, close-matched}
-use Rattle.text.proofs.reader.close_block.Statement.{statement}
-use Rattle.text.proofs.reader.close_block.Tie as tie
+use Rattle.reader.proofs.Counted.{close-unmatched, close-matched}
+use Rattle.reader.proofs.close_block.Statement.{statement}
+use Rattle.reader.proofs.close_block.Tie as tie
 
 new-requires : tie.Need-new-requires
 new-requires c κs = search needs

@@ -10,13 +10,13 @@ use Rattle.plan.specs.Reading.{Class, OPERATOR, OPEN, CLOSE, BRACE, BLANK, BAD,
 use Rattle.plan.specs.declared.Character.{Character}
 use Rattle.plan.specs.declared.Character.the-variants.{Whole, Malformed}
 use Rattle.plan.specs.declared.Refusal.the-variants.{BadByte, Unmatched, Unclosed, Overfull}
-use Rattle.text.specs.declared.reader.Count.{Count}
-use Rattle.text.specs.declared.reader.InToken.{InToken}
-use Rattle.text.specs.declared.reader.InToken.the-variants.{Further, Close, Bad}
-use Rattle.text.specs.declared.reader.Step.{Step}
-use Rattle.text.specs.declared.reader.Step.the-variants.{On, Token, Stop}
-use Rattle.text.specs.declared.reader.Surveyed.{Surveyed}
-use Rattle.text.specs.declared.reader.Surveyed.the-variants.{Accepted, Refused}
+use Rattle.reader.specs.declared.Count.{Count}
+use Rattle.reader.specs.declared.InToken.{InToken}
+use Rattle.reader.specs.declared.InToken.the-variants.{Further, Close, Bad}
+use Rattle.reader.specs.declared.Step.{Step}
+use Rattle.reader.specs.declared.Step.the-variants.{On, Token, Stop}
+use Rattle.reader.specs.declared.Surveyed.{Surveyed}
+use Rattle.reader.specs.declared.Surveyed.the-variants.{Accepted, Refused}
 
 -- counts that one more byte cannot push over a u32
 pub record Small (n : Count) : Type 0 where

@@ -7,14 +7,14 @@ ghost use lib.ListN.{length, drop};
 ghost use Rattle.kinds.specs.Limits.{textLimit, tokenLimit};
 ghost use Rattle.plan.specs.Token.{character};
 ghost use Rattle.plan.specs.Reading.{CLOSE, class, read};
-ghost use Rattle.text.specs.Counting.{Small, one-item, opened, stepped, in-token, finished, surveyed};
-use crate::character_at;
-use crate::class_of;
-use crate::may_hold;
+ghost use Rattle.reader.specs.Counting.{Small, one-item, opened, stepped, in-token, finished, surveyed};
 use kinds::Place;
 use kinds::Token;
 use plan::Character;
 use plan::Refusal;
+use text::character_at;
+use text::class_of;
+use text::may_hold;
 
 // What was counted so far: blocks open, items begun, bytes that will be printed, and the place of the first item past
 // the room, once there is one.

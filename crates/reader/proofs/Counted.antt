@@ -13,13 +13,13 @@ use Rattle.plan.specs.Reading.{Class, OPERATOR, OPEN, CLOSE, BRACE, BLANK, BAD,
 use Rattle.plan.specs.declared.Character.{Character}
 use Rattle.plan.specs.declared.Character.the-variants.{Whole, Malformed}
 use Rattle.plan.specs.declared.Refusal.the-variants.{BadByte, Unmatched, Unclosed, Overfull}
 use Rattle.text.specs.Classes.{class-number}
-use Rattle.text.specs.Counting.{one-item, opened, closed, stepped, in-token, finished}
-use Rattle.text.specs.declared.reader.Count.{Count}
-use Rattle.text.specs.declared.reader.InToken.the-variants.{Further, Close, Bad}
-use Rattle.text.specs.declared.reader.Step.{Step}
-use Rattle.text.specs.declared.reader.Step.the-variants.{On, Token, Stop}
-use Rattle.text.specs.declared.reader.Surveyed.the-variants.{Accepted, Refused}
+use Rattle.reader.specs.Counting.{one-item, opened, closed, stepped, in-token, finished}
+use Rattle.reader.specs.declared.Count.{Count}
+use Rattle.reader.specs.declared.InToken.the-variants.{Further, Close, Bad}
+use Rattle.reader.specs.declared.Step.{Step}
+use Rattle.reader.specs.declared.Step.the-variants.{On, Token, Stop}
+use Rattle.reader.specs.declared.Surveyed.the-variants.{Accepted, Refused}
 
 module _ (n : Count) (at room bytes : ℕ) where
   abbrev item : Place → Count

@@ -54,12 +54,12 @@ use Rattle.plan.proofs.Classes.{clash}
 use Rattle.plan.proofs.Faultless.{faultless-then, blanks-then, open-blocks, begun-items, without-blanks-length}
 use Rattle.plan.proofs.Reached.{TextRead, text-read, text-fits}
 use Rattle.plan.proofs.Refusals.{row-refused}
-use Rattle.text.specs.Counting.{Small, one-item, deeper, opened, closed, stepped, finished, surveyed}
-use Rattle.text.specs.declared.reader.Count.{Count}
-use Rattle.text.specs.declared.reader.Step.{Step}
-use Rattle.text.specs.declared.reader.Step.the-variants.{On, Token, Stop}
-use Rattle.text.specs.declared.reader.Surveyed.{Surveyed}
-use Rattle.text.specs.declared.reader.Surveyed.the-variants.{Accepted, Refused}
+use Rattle.reader.specs.Counting.{Small, one-item, deeper, opened, closed, stepped, finished, surveyed}
+use Rattle.reader.specs.declared.Count.{Count}
+use Rattle.reader.specs.declared.Step.{Step}
+use Rattle.reader.specs.declared.Step.the-variants.{On, Token, Stop}
+use Rattle.reader.specs.declared.Surveyed.{Surveyed}
+use Rattle.reader.specs.declared.Surveyed.the-variants.{Accepted, Refused}
 
 -- item number `room` begins at the place `first`
 pub record PastAt (text : List ℕ) (room first at : ℕ) : Type 0 where

@@ -1,8 +1,8 @@
 -- `token_byte`: each test picks the case of the definition, in the definition's order.
 use borrow.Author.Needs.{needs}
-use Rattle.text.proofs.Counted.{token-cut, token-nothing, token-close, token-over, token-further, token-bad}
-use Rattle.text.proofs.reader.token_byte.Statement.{statement}
-use Rattle.text.proofs.reader.token_byte.Tie as tie
+use Rattle.reader.proofs.Counted.{token-cut, token-nothing, token-close, token-over, token-further, token-bad}
+use Rattle.reader.proofs.token_byte.Statement.{statement}
+use Rattle.reader.proofs.token_byte.Tie as tie
 
 character-at-requires : tie.Need-character-at-requires
 character-at-requires c κs = search needs

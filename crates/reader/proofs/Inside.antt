@@ -23,14 +23,14 @@ use Rattle.plan.proofs.Blanks.{token-kept}
 use Rattle.plan.proofs.Classes.{class-byte}
 use Rattle.plan.proofs.Tokens.{allowed-no-brace}
 use Rattle.plan.proofs.Utf8.{character-high, character-one, character-width}
-use Rattle.text.specs.Counting.{closed, one-item, stepped, in-token, surveyed}
-use Rattle.text.specs.declared.reader.Count.{Count}
-use Rattle.text.specs.declared.reader.InToken.{InToken}
-use Rattle.text.specs.declared.reader.InToken.the-variants.{Further, Close, Bad}
-use Rattle.text.specs.declared.reader.Step.the-variants.{On, Token, Stop}
-use Rattle.text.specs.declared.reader.Surveyed.the-variants.{Refused}
-use Rattle.text.proofs.Going.{Going, item-more, refused-here, token-is-not-on, token-is-not-stop}
-use Rattle.text.proofs.Scanned.{
+use Rattle.reader.specs.Counting.{closed, one-item, stepped, in-token, surveyed}
+use Rattle.reader.specs.declared.Count.{Count}
+use Rattle.reader.specs.declared.InToken.{InToken}
+use Rattle.reader.specs.declared.InToken.the-variants.{Further, Close, Bad}
+use Rattle.reader.specs.declared.Step.the-variants.{On, Token, Stop}
+use Rattle.reader.specs.declared.Surveyed.the-variants.{Refused}
+use Rattle.reader.proofs.Going.{Going, item-more, refused-here, token-is-not-on, token-is-not-stop}
+use Rattle.reader.proofs.Scanned.{
   Scanned,
   start,
   scanned-step,

@@ -1,8 +1,8 @@
 -- `one_item`: the item whose number is the room is the first past it.
 use borrow.Author.Needs.{needs}
-use Rattle.text.proofs.Counted.{item-past, item-within}
-use Rattle.text.proofs.reader.one_item.Statement.{statement}
-use Rattle.text.proofs.reader.one_item.Tie as tie
+use Rattle.reader.proofs.Counted.{item-past, item-within}
+use Rattle.reader.proofs.one_item.Statement.{statement}
+use Rattle.reader.proofs.one_item.Tie as tie
 
 add-t8 : tie.Need-add-t8
 add-t8 c = search needs

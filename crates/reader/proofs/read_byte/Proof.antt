@@ -1,8 +1,8 @@
 -- `read_byte`: the class number says which case of the definition it is.
 use borrow.Author.Needs.{needs}
-use Rattle.text.proofs.Counted.{step-operator, step-open, step-close, step-brace, step-blank, step-bad}
-use Rattle.text.proofs.reader.read_byte.Statement.{statement}
-use Rattle.text.proofs.reader.read_byte.Tie as tie
+use Rattle.reader.proofs.Counted.{step-operator, step-open, step-close, step-brace, step-blank, step-bad}
+use Rattle.reader.proofs.read_byte.Statement.{statement}
+use Rattle.reader.proofs.read_byte.Tie as tie
 
 class-of-requires : tie.Need-class-of-requires
 class-of-requires c κs = search needs

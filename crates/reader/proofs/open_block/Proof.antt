@@ -2,10 +2,10 @@
 use mathlib.Core.Path.{ap}
 use native.Mathlib.Omega.{arith}
 use borrow.Author.Needs.{needs}
-use Rattle.text.specs.Counting.{deeper}
-use Rattle.text.specs.declared.reader.Count.{Count}
-use Rattle.text.proofs.reader.open_block.Statement.{statement}
-use Rattle.text.proofs.reader.open_block.Tie as tie
+use Rattle.reader.specs.Counting.{deeper}
+use Rattle.reader.specs.declared.Count.{Count}
+use Rattle.reader.proofs.open_block.Statement.{statement}
+use Rattle.reader.proofs.open_block.Tie as tie
 
 one-item-requires : tie.Need-one-item-requires
 one-item-requires c κs = search needs
