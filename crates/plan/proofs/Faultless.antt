@@ -1,12 +1,14 @@
 -- Bytes without a fault behind bytes without a fault hold none either; and how many bytes blocks, items and the text
 -- without its blanks take at the least.
-use Prim.Native.Nat.{ℕ, suc, _+_, _≤_}
+use Prim.Native.Nat.{ℕ, suc, _+_, _≤_, _<_}
 use mathlib.Core.Path.{_≡_, refl, ap, sym, _∙_, subst}
 use mathlib.Core.Bool.{Bool, true, false, not, _||_}
 use mathlib.Core.List.{List, [], _∷_, _++_, append-assoc}
 use native.Mathlib.Omega.{arith}
 use native.Mathlib.Nat.{zero-add, suc-add}
-use lib.ListN.{length, length-append}
+use native.Mathlib.Numerals.{add-one}
+use lib.ListN.{length, getD, take, length-append}
+use lib.Seq.{take-suc}
 use lib.Dec.{eqb}
 use Rattle.plan.specs.Plan.{open-brace, close-brace}
 use Rattle.plan.specs.Reading.{class, without-blanks}
@@ -77,3 +79,7 @@ without-blanks-length false (b ∷ bs) =
     let kept : length (b ∷ without-blanks (eqb b open-brace) bs) ≤ suc (length bs) =
     omega (arith, without-blanks-length (eqb b open-brace) bs) in
     cond-cases (λ (us : List ℕ). length us ≤ suc (length bs)) (eqb b 32 || eqb b 10) (λ _. dropped) (λ _. kept)
+
+-- one byte more of a text
+pub take-one : (text : List ℕ) (at : ℕ) → at < length text → take (at + 1) text ≡ take at text ++ getD text at 0 ∷ []
+take-one text at h = ap (λ k. take k text) (add-one at) ∙ take-suc text at 0 h

@@ -66,17 +66,17 @@ abbrev pub Fine : ℕ → Around → Plan ℕ → Type 0
 Fine limit outermost here = Allowed limit here
 Fine limit (inside l before out) here = Fine limit out before × Allowed limit here
 
-seen-then : (out : Around) (here q : Plan ℕ) → seen out (here then q) ≡ seen out here ++ labels q
+pub seen-then : (out : Around) (here q : Plan ℕ) → seen out (here then q) ≡ seen out here ++ labels q
 unfolding seen
 seen-then outermost here q = labels-then here q
 seen-then (inside l before out) here q = rw (labels-then here q, append-assoc)
 
-shown-then : (out : Around) (here q : Plan ℕ) → shown out (here then q) ≡ shown out here ++ print q
+pub shown-then : (out : Around) (here q : Plan ℕ) → shown out (here then q) ≡ shown out here ++ print q
 unfolding shown
 shown-then outermost here q = print-then here q
 shown-then (inside l before out) here q = rw (print-then here q, append-assoc)
 
-fine-then : (limit : ℕ) (out : Around) (here q : Plan ℕ) → Fine limit out here → Allowed limit q → Fine limit out (here then q)
+pub fine-then : (limit : ℕ) (out : Around) (here q : Plan ℕ) → Fine limit out here → Allowed limit q → Fine limit out (here then q)
 fine-then limit outermost here q h g = allowed-then limit here q h g
 fine-then limit (inside l before out) here q h g = (h .0, allowed-then limit here q (h .1) g)
 
@@ -126,7 +126,7 @@ module _ (limit at b : ℕ) (out : Around) (here : Plan ℕ) where
   unfolding read-from go-on
   moved out′ here′ m rest = rw (m rest) (ap (λ n. read-from limit n 0 out′ here′ rest) (omega arith))
 
-  one-blank : class b ≡ BLANK → Reached limit at out here (b ∷ []) (depth out) 0
+  unfoldable pub one-blank : class b ≡ BLANK → Reached limit at out here (b ∷ []) (depth out) 0
   unfolding move without-blanks
   one-blank c =
       record {
@@ -141,7 +141,7 @@ module _ (limit at b : ℕ) (out : Around) (here : Plan ℕ) where
         fine = λ f. f;
       }
 
-  one-operator : (o : Operator) → class b ≡ OPERATOR o → Reached limit at out here (b ∷ []) (depth out) 1
+  unfoldable pub one-operator : (o : Operator) → class b ≡ OPERATOR o → Reached limit at out here (b ∷ []) (depth out) 1
   unfolding move print labels
   one-operator o c =
       record {
@@ -157,7 +157,7 @@ module _ (limit at b : ℕ) (out : Around) (here : Plan ℕ) where
         fine = λ f. fine-then limit out here (operator at o end) f tt;
       }
 
-  one-open : class b ≡ OPEN → Reached limit at out here (b ∷ []) (suc (depth out)) 1
+  unfoldable pub one-open : class b ≡ OPEN → Reached limit at out here (b ∷ []) (suc (depth out)) 1
   unfolding move seen shown print labels
   one-open c =
       record {
@@ -172,7 +172,7 @@ module _ (limit at b : ℕ) (out : Around) (here : Plan ℕ) where
         fine = λ f. (f, tt);
       }
 
-one-close : (limit at b l : ℕ) (before : Plan ℕ) (out : Around) (here : Plan ℕ)
+unfoldable pub one-close : (limit at b l : ℕ) (before : Plan ℕ) (out : Around) (here : Plan ℕ)
     → class b ≡ CLOSE → Reached limit at (inside l before out) here (b ∷ []) (depth out) 0
 unfolding move seen shown print labels
 one-close limit at b l before out here c =
@@ -191,7 +191,7 @@ one-close limit at b l before out here c =
       fine = λ f. fine-then limit out before (block l here end) (f .0) (f .1, tt);
     }
 
-one-token : (limit at b : ℕ) (t : List ℕ) (out : Around) (here : Plan ℕ)
+unfoldable pub one-token : (limit at b : ℕ) (t : List ℕ) (out : Around) (here : Plan ℕ)
     → class b ≡ BRACE → allowed limit t ≡ true → Reached limit at out here (b ∷ (t ++ close-brace ∷ [])) (depth out) 1
 unfolding read-from go-on move past-token print labels without-blanks
 one-token limit at b t out here c a =

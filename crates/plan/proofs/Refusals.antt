@@ -136,7 +136,7 @@ whole-of : {limit from d : ℕ} {bs : List ℕ} {p : Plan ℕ} → Verdict limit
 whole-of (whole f) = (_, f)
 
 -- Item number n of a text begins at its first byte: its label is the place of that byte.
-item-place : (limit : ℕ) (before rest : List ℕ) (b : ℕ) {d n : ℕ} {p : Plan ℕ} → Faultless limit 0 before d n → Begins (class b)
+pub item-place : (limit : ℕ) (before rest : List ℕ) (b : ℕ) {d n : ℕ} {p : Plan ℕ} → Faultless limit 0 before d n → Begins (class b)
     → read-from limit 0 0 outermost end (before ++ b ∷ rest) ≡ PLAN p → (getD (labels p) n 0 ≡ length before) × (n < cells p)
 unfolding seen labels
 item-place limit before rest b {n = n} {p = p} f g e =

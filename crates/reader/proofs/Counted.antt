@@ -14,6 +14,7 @@ use Rattle.plan.specs.declared.Character.{Character}
 use Rattle.plan.specs.declared.Character.the-variants.{Whole, Malformed}
 use Rattle.plan.specs.declared.Refusal.the-variants.{BadByte, Unmatched, Unclosed, Overfull}
 use Rattle.text.specs.Classes.{class-number}
+use Rattle.text.proofs.ClassNumbers.{by-number, operator-number, other-number}
 use Rattle.reader.specs.Counting.{one-item, opened, closed, stepped, in-token, finished}
 use Rattle.reader.specs.declared.Count.{Count}
 use Rattle.reader.specs.declared.InToken.the-variants.{Further, Close, Bad}
@@ -30,29 +31,6 @@ module _ (n : Count) (at room bytes : ℕ) where
 
   pub item-within : n .cells ≢ room → item (n .past) ≡ one-item n at room bytes
   item-within e = simp (ne-eqb (n .cells) room e)
-
--- a class by its number
-abbrev by-number : ℕ → Class
-by-number m = cond (eqb m 4) OPEN (cond (eqb m 5) CLOSE (cond (eqb m 6) BRACE (cond (eqb m 7) BLANK BAD)))
-
-operator-number : (k : Class) {m : ℕ} → m ≡ class-number k → m < 4 → (o : Operator) × (k ≡ OPERATOR o)
-operator-number (OPERATOR o) e h = (o, refl)
-operator-number OPEN e h = absurd (omega arith)
-operator-number CLOSE e h = absurd (omega arith)
-operator-number BRACE e h = absurd (omega arith)
-operator-number BLANK e h = absurd (omega arith)
-operator-number BAD e h = absurd (omega arith)
-
-other-number : (k : Class) {m : ℕ} → m ≡ class-number k → 4 ≤ m → k ≡ by-number m
-other-number (OPERATOR op-a) e h = absurd (omega arith)
-other-number (OPERATOR op-b) e h = absurd (omega arith)
-other-number (OPERATOR op-c) e h = absurd (omega arith)
-other-number (OPERATOR op-d) e h = absurd (omega arith)
-other-number OPEN e h = sym (ap by-number e)
-other-number CLOSE e h = sym (ap by-number e)
-other-number BRACE e h = sym (ap by-number e)
-other-number BLANK e h = sym (ap by-number e)
-other-number BAD e h = sym (ap by-number e)
 
 module _ (n : Count) (b at room : ℕ) {m : ℕ} (e : m ≡ class-number (class b)) where
   is-class : (k : ℕ) → m ≡ k → 4 ≤ k → class b ≡ by-number k

@@ -10,7 +10,7 @@ use native.Mathlib.Nat.{add-zero}
 use native.Mathlib.Numerals.{add-one}
 use lib.Dec.{eqb, leb, ltb}
 use lib.ListN.{length, getD, take, drop, length-append}
-use lib.Seq.{take-suc, take-all, split-at, length-take-le}
+use lib.Seq.{take-all, split-at, length-take-le}
 use borrow.Author.Tests.{eqb-true, eqb-false, ltb-true, ltb-false, le-leb}
 use Rattle.kinds.specs.Limits.{textLimit, tokenLimit}
 use Rattle.plan.specs.Plan.{cells, print}
@@ -51,7 +51,7 @@ use Rattle.plan.specs.declared.Refusal.{Refusal}
 use Rattle.plan.specs.declared.Refusal.the-variants.{BadByte, Unmatched, Unclosed, Overfull}
 use Rattle.plan.proofs.Blanks.{kept, dropped}
 use Rattle.plan.proofs.Classes.{clash}
-use Rattle.plan.proofs.Faultless.{faultless-then, blanks-then, open-blocks, begun-items, without-blanks-length}
+use Rattle.plan.proofs.Faultless.{take-one, faultless-then, blanks-then, open-blocks, begun-items, without-blanks-length}
 use Rattle.plan.proofs.Reached.{TextRead, text-read, text-fits}
 use Rattle.plan.proofs.Refusals.{row-refused}
 use Rattle.reader.specs.Counting.{Small, one-item, deeper, opened, closed, stepped, finished, surveyed}
@@ -163,18 +163,15 @@ module _ {text : List ℕ} {room at : ℕ} {n : Count} (g : Going text room n at
   abbrev here : ℕ
   here = getD text at 0
 
-  one-further : take (at + 1) text ≡ take at text ++ here ∷ []
-  one-further = ap (λ k. take k text) (add-one at) ∙ take-suc text at 0 inside
-
   on-by-class : (k : Class) → class here ≡ k → (m : Count) → stepped n k at room ≡ On m → Going text room m (at + 1)
   unfolding stepped
   on-by-class (OPERATOR o) c m e =
       subst (λ x. Going text room x (at + 1)) (on-injective e)
-      (item-more g (here ∷ []) (at + 1) one-further (omega arith) (omega arith) (n .depth) 1 (an-operator c nothing)
+      (item-more g (here ∷ []) (at + 1) (take-one text at inside) (omega arith) (omega arith) (n .depth) 1 (an-operator c nothing)
       (ap length (kept here (λ z. clash (sym c ∙ z) tt))) (rw c tt))
   on-by-class OPEN c m e =
       subst (λ x. Going text room x (at + 1)) (on-injective e)
-      (item-more g (here ∷ []) (at + 1) one-further (omega arith) (omega arith) (n .depth + 1) 1 (rw add-one (opens c nothing))
+      (item-more g (here ∷ []) (at + 1) (take-one text at inside) (omega arith) (omega arith) (n .depth + 1) 1 (rw add-one (opens c nothing))
       (ap length (kept here (λ z. clash (sym c ∙ z) tt))) (rw c tt))
   on-by-class CLOSE c m e = go (eqb (n .depth) 0) refl e
     where
@@ -184,14 +181,14 @@ module _ {text : List ℕ} {room at : ℕ} {n : Count} (g : Going text room n at
           let differ : n .depth ≢ 0 = eqb-false (n .depth) 0 h in
           let deep : n .depth ≡ suc (n .depth - 1) = omega arith in
           subst (λ x. Going text room x (at + 1)) (on-injective e)
-          (same-items g (here ∷ []) (at + 1) one-further (omega arith) (omega arith) (n .depth - 1) 1
+          (same-items g (here ∷ []) (at + 1) (take-one text at inside) (omega arith) (omega arith) (n .depth - 1) 1
           (subst (λ d. Faultless tokenLimit d (here ∷ []) (n .depth - 1) 0) (sym deep) (closes c nothing))
           (ap length (kept here (λ z. clash (sym c ∙ z) tt))))
   on-by-class BRACE c m e = token-is-not-on e
   on-by-class BLANK c m e =
       let counted : Count → ℕ → Count = λ m l. record { depth = m .depth; cells = m .cells; length = l; past = m .past } in
       subst (λ x. Going text room x (at + 1)) (ap (counted n) (add-zero (n .length)) ∙ on-injective e)
-      (same-items g (here ∷ []) (at + 1) one-further (omega arith) (omega arith) (n .depth) 0 (blank c nothing) (ap length (dropped here c)))
+      (same-items g (here ∷ []) (at + 1) (take-one text at inside) (omega arith) (omega arith) (n .depth) 0 (blank c nothing) (ap length (dropped here c)))
   on-by-class BAD c m e = stop-is-not-on e
 
   -- one byte that is no fault

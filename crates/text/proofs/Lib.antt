@@ -1,4 +1,5 @@
 pub mod Characters
+pub mod ClassNumbers
 pub mod Held
 pub mod Table
 pub mod Tidied

@@ -1,0 +1,61 @@
+#!/usr/bin/env python3
+"""Turns the cases of base.txt into the standard input of crates/vectors.
+
+    python3 tests/vectors-to-stdin.py BASE.TXT > crates/vectors/stdin
+
+base.txt has a case a line, each kind with fields of its own:
+
+    check - TEXT = NUMBER STEPS CELLS LENGTH PLACE
+    tidy - TEXT OUTLEN = NUMBER STEPS CELLS LENGTH PLACE OUT
+    run - TEXT QUOTA MEMLEN OUTLEN = NUMBER STEPS CELLS LENGTH PLACE OUT
+
+What is written has a case a line too, in the same order, and the same fields for every kind, so that one short proved
+reader serves all of them:
+
+    KIND QUOTA MEMLEN OUTLEN NUMBER STEPS CELLS LENGTH PLACE TEXT OUT
+
+Fields are parted by one SP, and the last is ended by LF. KIND is 1 for check and 2 for tidy; 3 is kept for run. What a
+kind has not, its line has as 0. Numbers are decimal. TEXT and OUT are bytes: the number of their runs, then for each run
+two fields, its LENGTH in bytes and its pattern in hex, which is repeated until LENGTH bytes are filled. No bytes are `0`.
+So `5b*3+5d` of base.txt is `2 3 5b 1 5d`, and `5b5d*2` is `1 4 5b5d`.
+"""
+
+import sys
+
+KINDS = {"check": 1, "tidy": 2}
+
+
+def runs(field):
+    """The runs of a field of base.txt: each a pattern in hex and how often it stands there."""
+    if field == "-":
+        return []
+    parted = (run.partition("*") for run in field.split("+"))
+    return [(pattern, int(times) if star else 1) for pattern, star, times in parted]
+
+
+def bytes_form(field):
+    """A field of bytes: the number of its runs, then the length and the pattern of each."""
+    words = [str(len(runs(field)))]
+    for pattern, times in runs(field):
+        words += [str(len(bytes.fromhex(pattern)) * times), pattern]
+    return " ".join(words)
+
+
+def line_form(kind, given, answer):
+    """A line of the form, from the fields on both sides of the `=`."""
+    text, *lent = given
+    numbers, out = answer[:5], answer[5] if len(answer) == 6 else "-"
+    lent = ["0"] * (3 - len(lent)) + lent
+    return " ".join([str(KINDS[kind]), *lent, *numbers, bytes_form(text), bytes_form(out)])
+
+
+def main():
+    with open(sys.argv[1], encoding="ascii") as base:
+        for line in base:
+            kind, _, *fields = line.split()
+            if kind in KINDS:
+                middle = fields.index("=")
+                print(line_form(kind, fields[:middle], fields[middle + 1 :]))
+
+
+main()
