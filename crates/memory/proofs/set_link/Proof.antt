@@ -1,0 +1,49 @@
+-- `set_link`: a store to the whole list, whether the link is kept in the memory or beside it.
+use mathlib.Core.Path.{refl}
+use native.Mathlib.Omega.{arith}
+use lib.ListN.{length-set}
+use Rattle.memory.proofs.Whole.{set-first, set-whole}
+use borrow.Author.Needs.{needs}
+use Rattle.memory.proofs.set_link.Statement.{statement}
+use Rattle.memory.proofs.set_link.Tie as tie
+
+mul-if1 : tie.Need-mul-if1
+mul-if1 c = search needs
+
+returns : tie.Need-returns
+returns c = (set-first _ _ _ (c .before .before .before .pre .0) _ _ (c .if1 .taken), refl)
+
+cast-number : tie.Need-cast-number
+cast-number c = search needs
+
+mul-number : tie.Need-mul-number
+mul-number c = search needs
+
+add-number : tie.Need-add-number
+add-number c = search needs
+
+mul-memory : tie.Need-mul-memory
+mul-memory c = search needs
+
+slice-write-memory : tie.Need-slice-write-memory
+slice-write-memory c = search needs
+
+same-length : tie.Need-same-length
+same-length c = search needs
+
+returns-2 : tie.Need-returns-2
+returns-2 c = (set-whole _ _ _ (c .before .before .before .before .pre .0) _ _ (omega arith), simp length-set)
+
+pub set-link-spec : {M : Type 1} → statement M
+set-link-spec =
+    tie.close
+    (tie.spec
+    mul-if1
+    returns
+    cast-number
+    mul-number
+    add-number
+    mul-memory
+    slice-write-memory
+    same-length
+    returns-2)

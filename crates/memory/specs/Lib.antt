@@ -1,0 +1,4 @@
+pub mod Held
+pub mod Memory
+pub mod Model
+pub mod Pieces

@@ -1,0 +1,102 @@
+-- The builder's steps on plain values: the whole of the numbers and what is kept beside them. The code's functions promise
+-- exactly these; that each keeps what `Building` says is proved of them alone.
+use Prim.Native.Nat.{ℕ, _+_, _*_, _≤_, _<_}
+use mathlib.Core.Path.{_≡_}
+use mathlib.Core.List.{List}
+use lib.ListN.{length, set}
+use Rattle.kinds.specs.Limits.{cellLimit}
+use Rattle.kinds.specs.declared.Cell.{Cell}
+use Rattle.plan.specs.Plan.{Plan}
+use Rattle.plan.specs.Reading.{Around}
+use Rattle.memory.specs.Memory.{start, close, link, whole, token-kind, block-kind, Building}
+use Rattle.memory.specs.declared.Build.{Build}
+use Rattle.memory.specs.declared.Held.{Held}
+
+-- n cells are lent
+pub record Lent (n : ℕ) (m : List ℕ) : Type 0 where
+  pub room : 4 * n ≤ length m
+  pub few : n ≤ cellLimit
+
+pub record Model : Type 0 where
+  pub numbers : List ℕ
+  pub tail : ℕ
+  pub opened : ℕ
+  pub free : ℕ
+
+abbrev pub model : List ℕ → Build → Model
+model m b =
+    record { numbers = whole (b .outer .0) m (b .first .0); tail = b .tail .0; opened = b .opened .0; free = b .free .0 }
+
+-- what the model holds, as far as it is built
+abbrev pub Built : (text : List ℕ) → (n : ℕ) → Model → Around → Plan ℕ → Type 0
+Built text n s out here = Building text n (s .numbers) (s .tail) (s .opened) (s .free) out here
+
+-- a step can be made: there is room, and what is kept beside the numbers is within it
+pub record Ready (m : List ℕ) (b : Build) : Type 0 where
+  pub lent : Lent (b .outer .0) m
+  pub tail : b .tail .0 ≤ start (b .outer .0)
+  pub opened : b .opened .0 ≤ b .outer .0
+
+-- one step: what the model is after it, in a memory that stays as long, with the same cells
+pub record Stepped (m : List ℕ) (b : Build) (m′ : List ℕ) (b′ : Build) (s : Model) : Type 0 where
+  pub steps : model m′ b′ ≡ s
+  pub outer : b′ .outer ≡ b .outer
+  pub as-long : length m′ ≡ length m
+
+-- all cells are free, in order, and nothing is read yet
+pub record Fresh (bound : Cell) (m : List ℕ) (b : Build) : Type 0 where
+  pub lent : Lent (bound .0) m
+  pub outer : b .outer ≡ bound
+  pub tail : b .tail .0 ≡ start (bound .0)
+  pub opened : b .opened .0 ≡ bound .0
+  pub free : b .free .0 ≡ 0
+  pub links : (i : ℕ) → i < bound .0 → link (whole (bound .0) m (b .first .0)) (start i) ≡ i + 1
+
+-- the free cell behind the first one
+abbrev pub next-free : Model → ℕ
+next-free s = link (s .numbers) (start (s .free))
+
+-- the first free cell at the tail, once its numbers are written: which block is open then, and which cell is free
+abbrev pub with-cell : Model → (written : List ℕ) → (opened next : ℕ) → Model
+with-cell s written opened next =
+    record { numbers = set written (2 * s .tail + 1) (start (s .free)); tail = start (s .free); opened = opened; free = next }
+
+-- the first free cell begun with its kind
+pub record Begun (m m′ : List ℕ) (b : Build) (kind next : ℕ) : Type 0 where
+  pub behind : next ≡ next-free (model m b)
+  pub begins : model m′ b .numbers ≡ set (model m b .numbers) (2 * start (b .free .0)) kind
+  pub as-long : length m′ ≡ length m
+
+-- an operator, by its kind
+abbrev pub with-item : Model → (kind : ℕ) → Model
+with-item s kind = with-cell s (set (s .numbers) (2 * start (s .free)) kind) (s .opened) (next-free s)
+
+abbrev pub with-token : Model → (at len : ℕ) → Model
+with-token s at len =
+    with-cell s
+    (set (set (set (s .numbers) (2 * start (s .free)) token-kind) (2 * close (s .free)) at) (2 * close (s .free) + 1) len)
+    (s .opened) (next-free s)
+
+abbrev pub with-block : Model → Model
+with-block s =
+    with-cell s (set (set (s .numbers) (2 * start (s .free)) block-kind) (2 * close (s .free) + 1) (s .opened)) (s .free) (next-free s)
+
+abbrev pub with-close : Model → Model
+with-close s =
+    record {
+      numbers = set (s .numbers) (2 * s .tail + 1) (close (s .opened));
+      tail = close (s .opened);
+      opened = link (s .numbers) (close (s .opened));
+      free = s .free;
+    }
+
+-- the end mark behind the last port
+abbrev pub with-end : (n : ℕ) → Model → List ℕ
+with-end n s = set (s .numbers) (2 * s .tail + 1) (close n)
+
+-- the end: the whole plan with what is kept beside it
+pub record Finished (m : List ℕ) (b : Build) (m′ : List ℕ) (h : Held) : Type 0 where
+  pub ends : whole (b .outer .0) m′ (h .first .0) ≡ with-end (b .outer .0) (model m b)
+  pub outer : h .outer ≡ b .outer
+  pub free : h .free ≡ b .free
+  pub as-long : length m′ ≡ length m
