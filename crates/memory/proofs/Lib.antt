@@ -2,12 +2,9 @@ pub mod Beginning
 pub mod Building
 pub mod Clearing
 pub mod Copying
-pub mod Ends
 pub mod Freeing
 pub mod Lists
-pub mod Onward
 pub mod Pieces
-pub mod Placing
 pub mod Ports
 pub mod Printing
 pub mod Putting

@@ -9,7 +9,6 @@ ghost use Rattle.memory.specs.Model.{Lent};
 use kinds::Cell;
 
 mod builder;
-mod from_text;
 mod print;
 
 pub use builder::close_block;
@@ -18,7 +17,6 @@ pub use builder::fresh;
 pub use builder::open_block;
 pub use builder::put_operator;
 pub use builder::put_token;
-pub use from_text::build_plan;
 pub use print::print_into;
 pub use print::printed_length;
 

@@ -2,9 +2,9 @@
 use Prim.Native.Nat.{_-_}
 use native.Mathlib.Omega.{arith}
 use lib.ListN.{length}
-use Rattle.memory.proofs.Ends.{WithinToken, within-end, within-more, within-start}
-use Rattle.memory.proofs.from_text.token_end.Statement.{statement}
-use Rattle.memory.proofs.from_text.token_end.Tie as tie
+use Rattle.loader.proofs.Ends.{WithinToken, within-end, within-more, within-start}
+use Rattle.loader.proofs.token_end.Statement.{statement}
+use Rattle.loader.proofs.token_end.Tie as tie
 
 abbrev Inv-loop : tie.InvT-loop
 Inv-loop text from at₀ at = WithinToken text from at

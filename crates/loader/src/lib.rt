@@ -8,18 +8,18 @@ ghost use Rattle.kinds.specs.Limits.{textLimit, tokenLimit};
 ghost use Rattle.plan.specs.Plan.{Plan, bare};
 ghost use Rattle.plan.specs.Reading.{PLAN, read};
 ghost use Rattle.plan.proofs.Tokens.{Found};
 ghost use Rattle.memory.specs.Held.{HeldIn};
 ghost use Rattle.memory.specs.Model.{Lent};
-use crate::Held;
-use crate::close_block;
-use crate::finish;
-use crate::fresh;
-use crate::open_block;
-use crate::put_operator;
-use crate::put_token;
 use kinds::Cell;
 use kinds::Place;
 use kinds::Token;
+use memory::Held;
+use memory::close_block;
+use memory::finish;
+use memory::fresh;
+use memory::open_block;
+use memory::put_operator;
+use memory::put_token;
 use text::class_of;
 
 // The place of the `}` that ends a token, from its first byte behind the `{` on.

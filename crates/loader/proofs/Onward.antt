@@ -33,11 +33,11 @@ use Rattle.memory.specs.Model.{
   with-item,
   with-token,
 }
 use Rattle.memory.specs.declared.Build.{Build}
 use Rattle.memory.specs.declared.Held.{Held}
 use Rattle.memory.proofs.Beginning.{fresh-building}
-use Rattle.memory.proofs.Placing.{Placed, never-bad, place-blank, place-close, place-end, place-open, place-operator, place-start, place-token, room, some-token}
+use Rattle.loader.proofs.Placing.{Placed, never-bad, place-blank, place-close, place-end, place-open, place-operator, place-start, place-token, room, some-token}
 use Rattle.memory.proofs.Steps.{building-ready, still-lent}
 
 pub record Onward (text m₀ : List ℕ) (b₀ : Build) (m : List ℕ) (b : Build) (at : ℕ) : Type 0 where
   pub plan : Plan ℕ

@@ -6,7 +6,7 @@ use native.Mathlib.Omega.{arith}
 use borrow.Author.Needs.{needs}
 use lib.ListN.{length}
 use Rattle.kinds.specs.declared.Place.{Place}
-use Rattle.memory.proofs.Onward.{
+use Rattle.loader.proofs.Onward.{
   Onward,
   blank-next,
   block-next,
@@ -23,8 +23,8 @@ use Rattle.memory.proofs.Onward.{
   token-next,
   token-ready,
 }
-use Rattle.memory.proofs.from_text.build_plan.Statement.{statement}
-use Rattle.memory.proofs.from_text.build_plan.Tie as tie
+use Rattle.loader.proofs.build_plan.Statement.{statement}
+use Rattle.loader.proofs.build_plan.Tie as tie
 
 abbrev Inv-loop : tie.InvT-loop
 Inv-loop text memory₀ build₀ at₀ memory build at = Onward text memory₀ build₀ memory build at
