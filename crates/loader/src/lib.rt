@@ -10,16 +10,16 @@ ghost use Rattle.plan.specs.Reading.{PLAN, read};
 ghost use Rattle.plan.proofs.Tokens.{Found};
 ghost use Rattle.memory.specs.Held.{HeldIn};
 ghost use Rattle.memory.specs.Model.{Lent};
+use builder::close_block;
+use builder::finish;
+use builder::fresh;
+use builder::open_block;
+use builder::put_operator;
+use builder::put_token;
 use kinds::Cell;
 use kinds::Place;
 use kinds::Token;
 use memory::Held;
-use memory::close_block;
-use memory::finish;
-use memory::fresh;
-use memory::open_block;
-use memory::put_operator;
-use memory::put_token;
 use text::class_of;
 
 // The place of the `}` that ends a token, from its first byte behind the `{` on.

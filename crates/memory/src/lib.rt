@@ -8,15 +8,8 @@ ghost use Rattle.memory.specs.Memory.{start, close, link, whole};
 ghost use Rattle.memory.specs.Model.{Lent};
 use kinds::Cell;
 
-mod builder;
 mod print;
 
-pub use builder::close_block;
-pub use builder::finish;
-pub use builder::fresh;
-pub use builder::open_block;
-pub use builder::put_operator;
-pub use builder::put_token;
 pub use print::print_into;
 pub use print::printed_length;
 
@@ -40,9 +33,9 @@ impl Port {
 }
 
 // What the first number of a cell says where it is no operator's kind.
-const TOKEN_KIND: u32 = 4;
+pub const TOKEN_KIND: u32 = 4;
 
-const BLOCK_KIND: u32 = 5;
+pub const BLOCK_KIND: u32 = 5;
 
 // A plan that is being built: the cell that is not lent, whose inside is the outermost sequence, and the first port of that;
 // the last port so far; the innermost open block; the first free cell.
@@ -93,7 +86,7 @@ pub fn set_link(memory: &mut [u32], outer: Cell, first: Port, port: Port, to: Po
     if port.0 == 2 * outer.0 {
         return to;
     }
-    let number = 2 * port.0 as usize + 1;
-    memory[number] = to.0;
+    let slot = 2 * port.0 as usize + 1;
+    memory[slot] = to.0;
     first
 }

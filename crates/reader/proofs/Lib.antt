@@ -2,3 +2,4 @@ pub mod Counted
 pub mod Going
 pub mod Inside
 pub mod Scanned
+pub mod Surveys

@@ -13,14 +13,14 @@ mul-if1 c = search needs
 returns : tie.Need-returns
 returns c = (set-first _ _ _ (c .before .before .before .pre .0) _ _ (c .if1 .taken), refl)
 
-cast-number : tie.Need-cast-number
-cast-number c = search needs
+cast-slot : tie.Need-cast-slot
+cast-slot c = search needs
 
-mul-number : tie.Need-mul-number
-mul-number c = search needs
+mul-slot : tie.Need-mul-slot
+mul-slot c = search needs
 
-add-number : tie.Need-add-number
-add-number c = search needs
+add-slot : tie.Need-add-slot
+add-slot c = search needs
 
 mul-memory : tie.Need-mul-memory
 mul-memory c = search needs
@@ -40,9 +40,9 @@ set-link-spec =
     (tie.spec
     mul-if1
     returns
-    cast-number
-    mul-number
-    add-number
+    cast-slot
+    mul-slot
+    add-slot
     mul-memory
     slice-write-memory
     same-length

@@ -1,0 +1,24 @@
+-- `close_block`: the cell around is read before the link is stored; as in the model.
+use mathlib.Core.Path.{refl}
+use borrow.Author.Needs.{needs}
+use Rattle.builder.proofs.close_block.Statement.{statement}
+use Rattle.builder.proofs.close_block.Tie as tie
+
+close-requires : tie.Need-close-requires
+close-requires c κs = search needs
+
+link-of-requires : tie.Need-link-of-requires
+link-of-requires c κs = search needs
+
+set-link-requires : tie.Need-set-link-requires
+set-link-requires c κs = search needs
+
+same-length : tie.Need-same-length
+same-length c = search needs
+
+returns : tie.Need-returns
+returns c = record { steps = cc; outer = refl; as-long = search needs }
+
+pub close-block-spec : {M : Type 1} → statement M
+close-block-spec =
+    tie.close (tie.spec close-requires link-of-requires set-link-requires same-length returns)

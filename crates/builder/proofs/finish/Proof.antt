@@ -1,0 +1,20 @@
+-- `finish`: the one store is that of the link to the end mark.
+use mathlib.Core.Path.{refl}
+use borrow.Author.Needs.{needs}
+use Rattle.builder.proofs.finish.Statement.{statement}
+use Rattle.builder.proofs.finish.Tie as tie
+
+close-requires : tie.Need-close-requires
+close-requires c κs = search needs
+
+set-link-requires : tie.Need-set-link-requires
+set-link-requires c κs = search needs
+
+same-length : tie.Need-same-length
+same-length c = search needs
+
+returns : tie.Need-returns
+returns c = record { ends = cc; outer = refl; free = refl; as-long = search needs }
+
+pub finish-spec : {M : Type 1} → statement M
+finish-spec = tie.close (tie.spec close-requires set-link-requires same-length returns)

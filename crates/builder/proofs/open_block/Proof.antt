@@ -1,0 +1,46 @@
+-- `open_block`: the kind is stored, then the block that was open, then the link; as in the model.
+use native.Mathlib.Omega.{arith}
+use borrow.Author.Needs.{needs}
+use Rattle.builder.proofs.open_block.Statement.{statement}
+use Rattle.builder.proofs.open_block.Tie as tie
+
+close-requires : tie.Need-close-requires
+close-requires c κs = search needs
+
+begin-cell-requires : tie.Need-begin-cell-requires
+begin-cell-requires c κs = search needs
+
+cast-set-number : tie.Need-cast-set-number
+cast-set-number c = search needs
+
+mul-set-number : tie.Need-mul-set-number
+mul-set-number c = search needs
+
+add-set-number : tie.Need-add-set-number
+add-set-number c = search needs
+
+set-number-requires : tie.Need-set-number-requires
+set-number-requires c κs = search needs
+
+append-requires : tie.Need-append-requires
+append-requires c κs = search needs
+
+same-length : tie.Need-same-length
+same-length c = search needs
+
+returns : tie.Need-returns
+returns c = record { steps = cc; outer = search needs; as-long = omega arith }
+
+pub open-block-spec : {M : Type 1} → statement M
+open-block-spec =
+    tie.close
+    (tie.spec
+    close-requires
+    begin-cell-requires
+    cast-set-number
+    mul-set-number
+    add-set-number
+    set-number-requires
+    append-requires
+    same-length
+    returns)
