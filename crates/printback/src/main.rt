@@ -43,6 +43,73 @@ fn print_back(text: &[u8], lent: &mut [u32], output: &mut [u8]) -> Back {
     Back::Printed(length as usize)
 }
 
+// Whether every number is 0.
+fn all_zero(numbers: &[u32]) -> bool {
+    let mut at = 0;
+    while at < numbers.len() {
+        if numbers[at] != 0 {
+            return false;
+        }
+        at += 1;
+    }
+    true
+}
+
+// A long text is told by its length alone.
+fn show(text: &[u8]) {
+    if text.len() <= 80 {
+        write_all(STDOUT_FILENO, text);
+    } else {
+        print_decimal(STDOUT_FILENO, text.len() as u64);
+        write_all(STDOUT_FILENO, b" bytes");
+    }
+}
+
+fn tell(text: &[u8], lent: &mut [u32], output: &mut [u8]) {
+    show(text);
+    write_all(STDOUT_FILENO, b" => ");
+    match print_back(text, lent, output) {
+        Back::Printed(length) => {
+            if length <= output.len() {
+                show(&output[0..length]);
+            }
+            if all_zero(lent) {
+                write_all(STDOUT_FILENO, b", memory 0");
+            } else {
+                write_all(STDOUT_FILENO, b", memory not 0");
+            }
+        }
+        Back::Refused => {
+            write_all(STDOUT_FILENO, b"refused");
+        }
+    }
+    write_all(STDOUT_FILENO, b"\n");
+}
+
+// As many blocks inside one another as there are cells.
+fn nest(text: &mut [u8; OUTPUT]) {
+    let mut at = 0;
+    while at < CELLS {
+        text[at] = b'[';
+        text[CELLS + at] = b']';
+        at += 1;
+    }
+}
+
+fn tell_all(lent: &mut [u32; MEMORY], output: &mut [u8; OUTPUT], nested: &mut [u8; OUTPUT]) {
+    tell(b"", lent, output);
+    tell(b"[{x}][{y}]a", lent, output);
+    tell(b"[ {x y} ]\n c d", lent, output);
+    tell(b"[c[][]baad]c[][]baad", lent, output);
+    tell(b"[{p}][{q}][{r}][[c]ab[]ba]a[][]baad", lent, output);
+    tell(b"[[]", lent, output);
+    nest(nested);
+    tell(nested, lent, output);
+}
+
 fn main() {
-    write_all(STDOUT_FILENO, b"x\n");
+    let mut lent = [7u32; MEMORY];
+    let mut output = [165u8; OUTPUT];
+    let mut nested = [0u8; OUTPUT];
+    tell_all(&mut lent, &mut output, &mut nested);
 }
