@@ -48,6 +48,13 @@ pub record Onward (text m₀ : List ℕ) (b₀ : Build) (m : List ℕ) (b : Buil
   pub as-long : length m ≡ length m₀
   pub placed : Placed text (b .outer .0) at (model m b)
 
+-- a token's end lies within the text, and within the token's limit
+pub record TokenEnds (text : List ℕ) (at fin : ℕ) : Type 0 where
+  pub inside : fin < length text
+  pub ahead : at < fin
+  pub few : fin + 1 - at ≤ tokenLimit
+  pub short : length text ≤ textLimit
+
 -- the kind of an operator is its class number
 kind-number : (o : Operator) → class-number (OPERATOR o) ≡ operator-kind o
 kind-number op-a = refl
@@ -107,15 +114,23 @@ module _ {text m₀ : List ℕ} {b₀ : Build} {m : List ℕ} {b : Build} {at : 
 
     -- the place of the token's end, as `token_end` finds it
     module _ (h : k ≡ 6) (fin : ℕ) (ends : (t : List ℕ) → Found tokenLimit (drop (at + 1) text) t → fin ≡ at + 1 + length t) where
-      pub token-bounds : (fin < length text) × (at < fin) × (fin + 1 - at ≤ tokenLimit)
-      token-bounds =
+      pub token-ends : TokenEnds text at fin
+      token-ends =
           let found = token-found h in
           let there = ends (found .0) (found .1) in
-          let fine = allowed-parts tokenLimit (found .0) (found .1 .fine) in (
-            omega (arith, there, ap length (found .1 .splits), length-append (found .0) (close-brace ∷ found .1 .rest), length-drop (at + 1) text),
-            omega (arith, there),
-            omega (arith, there, fine .1),
-          )
+          let fine = allowed-parts tokenLimit (found .0) (found .1 .fine) in
+          record {
+            inside = omega (
+              arith,
+              there,
+              ap length (found .1 .splits),
+              length-append (found .0) (close-brace ∷ found .1 .rest),
+              length-drop (at + 1) text,
+            );
+            ahead = omega (arith, there);
+            few = omega (arith, there, fine .1);
+            short = o .short;
+          }
 
       pub token-next : {m′ : List ℕ} {b′ : Build} (token : Token) → token .at .0 ≡ at → token .len ≡ fin + 1 - at
           → Stepped m b m′ b′ (with-token (model m b) (token .at .0) (token .len)) → Onward text m₀ b₀ m′ b′ (fin + 1)

@@ -8,6 +8,7 @@ use lib.ListN.{length}
 use Rattle.kinds.specs.declared.Place.{Place}
 use Rattle.loader.proofs.Onward.{
   Onward,
+  TokenEnds,
   blank-next,
   block-next,
   block-ready,
@@ -18,7 +19,7 @@ use Rattle.loader.proofs.Onward.{
   operator-next,
   operator-ready,
   ready,
-  token-bounds,
+  token-ends,
   token-found,
   token-next,
   token-ready,
@@ -122,49 +123,29 @@ token-end-requires c κs =
     let l = k .before .before in
     token-found (l .before .loop .inv) (l .loop-test .taken) (k .class-of .ensures) (c .if4 .taken)
 
-new-requires : tie.Need-new-requires Inv-loop μ-loop
-new-requires c κs =
-    let e = c .before in
+-- every need of the token's branch follows from where the token ends
+abbrev turn : tie.After-token-end Inv-loop μ-loop → tie.At-loop Inv-loop μ-loop
+turn e = e .before .before .before .before .before .before .before .before
+
+ends : (e : tie.After-token-end Inv-loop μ-loop)
+    → TokenEnds (turn e .before .before .before .before .before .before .before .args .text .now) (turn e .loop .at) (e .token-end .result)
+ends e =
     let t = e .before in
     let k = t .before .before .before .before in
     let l = k .before .before in
-    let bounds = token-bounds (l .before .loop .inv) (l .loop-test .taken) (k .class-of .ensures) (t .if4 .taken) _ (e .token-end .ensures) in
-    let o = l .before .loop .inv in
-    let short = o .short in
-    omega (arith, bounds)
+    token-ends (l .before .loop .inv) (l .loop-test .taken) (k .class-of .ensures) (t .if4 .taken) _ (e .token-end .ensures)
+
+new-requires : tie.Need-new-requires Inv-loop μ-loop
+new-requires c κs = omega (arith, ends (c .before))
 
 add-new : tie.Need-add-new Inv-loop μ-loop
-add-new c =
-    let e = c .before .before in
-    let t = e .before in
-    let k = t .before .before .before .before in
-    let l = k .before .before in
-    let bounds = token-bounds (l .before .loop .inv) (l .loop-test .taken) (k .class-of .ensures) (t .if4 .taken) _ (e .token-end .ensures) in
-    let o = l .before .loop .inv in
-    let short = o .short in
-    omega (arith, bounds)
+add-new c = omega (arith, ends (c .before .before))
 
 sub-new : tie.Need-sub-new Inv-loop μ-loop
-sub-new c =
-    let e = c .before .before in
-    let t = e .before in
-    let k = t .before .before .before .before in
-    let l = k .before .before in
-    let bounds = token-bounds (l .before .loop .inv) (l .loop-test .taken) (k .class-of .ensures) (t .if4 .taken) _ (e .token-end .ensures) in
-    let o = l .before .loop .inv in
-    let short = o .short in
-    omega (arith, bounds)
+sub-new c = omega (arith, ends (c .before .before))
 
 new-requires-2 : tie.Need-new-requires-2 Inv-loop μ-loop
-new-requires-2 c κs =
-    let e = c .before .before in
-    let t = e .before in
-    let k = t .before .before .before .before in
-    let l = k .before .before in
-    let bounds = token-bounds (l .before .loop .inv) (l .loop-test .taken) (k .class-of .ensures) (t .if4 .taken) _ (e .token-end .ensures) in
-    let o = l .before .loop .inv in
-    let short = o .short in
-    omega (arith, bounds)
+new-requires-2 c κs = omega (arith, ends (c .before .before))
 
 put-token-requires : tie.Need-put-token-requires Inv-loop μ-loop
 put-token-requires c κs =
@@ -174,26 +155,10 @@ put-token-requires c κs =
     token-ready (l .before .loop .inv) (l .loop-test .taken) (k .class-of .ensures) (t .if4 .taken)
 
 add-at-4 : tie.Need-add-at-4 Inv-loop μ-loop
-add-at-4 c =
-    let e = c .before .before .before .before .before .before in
-    let t = e .before in
-    let k = t .before .before .before .before in
-    let l = k .before .before in
-    let bounds = token-bounds (l .before .loop .inv) (l .loop-test .taken) (k .class-of .ensures) (t .if4 .taken) _ (e .token-end .ensures) in
-    let o = l .before .loop .inv in
-    let short = o .short in
-    omega (arith, bounds)
+add-at-4 c = omega (arith, ends (c .before .before .before .before .before .before))
 
 loop-less-4 : tie.Need-loop-less-4 Inv-loop μ-loop
-loop-less-4 c =
-    let e = c .before .before .before .before .before .before in
-    let t = e .before in
-    let k = t .before .before .before .before in
-    let l = k .before .before in
-    let bounds = token-bounds (l .before .loop .inv) (l .loop-test .taken) (k .class-of .ensures) (t .if4 .taken) _ (e .token-end .ensures) in
-    let o = l .before .loop .inv in
-    let short = o .short in
-    omega (arith, bounds)
+loop-less-4 c = omega (arith, ends (c .before .before .before .before .before .before))
 
 loop-again-4 : tie.Need-loop-again-4 Inv-loop μ-loop
 loop-again-4 c =
