@@ -54,21 +54,14 @@ blanks-then (opens {b = b} {bs = bs} c h) =
 blanks-then (closes {b = b} {bs = bs} c h) =
     seamless-then (b ∷ []) bs (λ us. seam b us (λ z. clash (sym c ∙ z) tt)) (blanks-then h)
 
-pub open-blocks : {limit d e k : ℕ} {xs : List ℕ} → Faultless limit d xs e k → e ≤ d + length xs
-open-blocks nothing = omega arith
-open-blocks (blank c h) = omega (arith, open-blocks h)
-open-blocks (an-operator c h) = omega (arith, open-blocks h)
-open-blocks (a-token {bs = bs} t c a h) = omega (arith, open-blocks h, length-append t (close-brace ∷ bs))
-open-blocks (opens c h) = omega (arith, open-blocks h)
-open-blocks (closes c h) = omega (arith, open-blocks h)
-
-pub begun-items : {limit d e k : ℕ} {xs : List ℕ} → Faultless limit d xs e k → k ≤ length xs
-begun-items nothing = omega arith
-begun-items (blank c h) = omega (arith, begun-items h)
-begun-items (an-operator c h) = omega (arith, begun-items h)
-begun-items (a-token {bs = bs} t c a h) = omega (arith, begun-items h, length-append t (close-brace ∷ bs))
-begun-items (opens c h) = omega (arith, begun-items h)
-begun-items (closes c h) = omega (arith, begun-items h)
+-- no more blocks open and no more items begun than there are bytes
+pub faultless-bounds : {limit d e k : ℕ} {xs : List ℕ} → Faultless limit d xs e k → (e ≤ d + length xs) × (k ≤ length xs)
+faultless-bounds nothing = omega arith
+faultless-bounds (blank c h) = omega (arith, faultless-bounds h)
+faultless-bounds (an-operator c h) = omega (arith, faultless-bounds h)
+faultless-bounds (a-token {bs = bs} t c a h) = omega (arith, faultless-bounds h, length-append t (close-brace ∷ bs))
+faultless-bounds (opens c h) = omega (arith, faultless-bounds h)
+faultless-bounds (closes c h) = omega (arith, faultless-bounds h)
 
 pub without-blanks-length : (in-token : Bool) (bs : List ℕ) → length (without-blanks in-token bs) ≤ length bs
 unfolding without-blanks

@@ -51,7 +51,7 @@ use Rattle.plan.specs.declared.Refusal.{Refusal}
 use Rattle.plan.specs.declared.Refusal.the-variants.{BadByte, Unmatched, Unclosed, Overfull}
 use Rattle.plan.proofs.Blanks.{kept, dropped}
 use Rattle.plan.proofs.Classes.{clash}
-use Rattle.plan.proofs.Faultless.{take-one, faultless-then, blanks-then, open-blocks, begun-items, without-blanks-length}
+use Rattle.plan.proofs.Faultless.{take-one, faultless-then, blanks-then, faultless-bounds, without-blanks-length}
 use Rattle.plan.proofs.Reached.{TextRead, text-read, text-fits}
 use Rattle.plan.proofs.Refusals.{row-refused}
 use Rattle.reader.specs.Counting.{Small, one-item, deeper, opened, closed, stepped, finished, surveyed}
@@ -79,8 +79,8 @@ pub going-small : {text : List ℕ} {room at : ℕ} {n : Count} → Going text r
 going-small {text} {room} {at} g =
     let whole = length-take-le at text (g .within) in
     record {
-      depth = omega (arith, open-blocks (g .clean), g .within, g .short);
-      cells = omega (arith, begun-items (g .clean), g .within, g .short);
+      depth = omega (arith, faultless-bounds (g .clean), g .within, g .short);
+      cells = omega (arith, faultless-bounds (g .clean), g .within, g .short);
       length = omega (arith, without-blanks-length false (take at text), g .keeps, g .within, g .short);
     }
 
