@@ -42,7 +42,7 @@ use Rattle.plan.proofs.Reached.{depth, Fine, Reached, one-blank, one-close, one
 use Rattle.plan.proofs.Refusals.{item-place, plan-is-no-refusal, read-faultless, row-refused}
 use Rattle.memory.specs.Memory.{Building, Holds, TokenAt, operator-kind}
 use Rattle.memory.specs.Model.{Model, with-block, with-close, with-end, with-item, with-token}
-use Rattle.memory.proofs.Lists.{below-split}
+use Rattle.memory.proofs.Steps.{opened-lent}
 use Rattle.memory.proofs.Building.{close-block, finish, has-room, open-block, put-operator, put-token}
 
 pub record Placed (text : List ℕ) (n at : ℕ) (s : Model) : Type 0 where
@@ -79,13 +79,12 @@ close-in : {text : List ℕ} {n at : ℕ} {s : Model} (out : Around) (here : Pla
     → Faultless tokenLimit 0 (take at text) (depth out) (length (seen out here)) → shown out here ≡ without-blanks false (take at text)
     → Fine tokenLimit out here → at < length text → class (getD text at 0) ≡ CLOSE → depth out ≢ 0
     → (s .opened < n) × Placed text n (at + 1) (with-close s)
-unfolding one-close seen
+unfolding one-close
 close-in outermost here b f h k inside-text c deep = absurd (deep refl)
 close-in {text} {n} {at} {s} (inside l before out) here b f h k inside-text c deep =
     let g : Placed text n at s =
-    record { out = inside l before out; here = here; built = b; clean = f; shows = h; fine = k; within = omega arith } in
-    let used = below-split n (seen out before) (l ∷ labels here) (below-split n (seen (inside l before out) here) (b .shared .spare) (b .shared .below) .0) .1 .0 in (
-      subst (_< n) (b .at-open) used,
+    record { out = inside l before out; here = here; built = b; clean = f; shows = h; fine = k; within = omega arith } in (
+      opened-lent b,
       advance g (getD text at 0 ∷ []) (at + 1) (with-close s) l (take-one text at inside-text) (omega arith)
           (one-close tokenLimit l (getD text at 0) l before out here c) (closes c nothing) (close-block b),
     )

@@ -103,9 +103,6 @@ module _ {L : Type 0} where
   pub cells-placed : (at : ℕ) (p : Plan L) → cells (placed at p) ≡ cells p
   cells-placed at p = sym (cells-relabel (λ l. tt) (placed at p)) ∙ ap cells (bare-placed at p) ∙ cells-relabel (λ l. tt) p
 
-  pub print-placed : (at : ℕ) (p : Plan L) → print (placed at p) ≡ print p
-  print-placed at p = sym (print-relabel (λ l. tt) (placed at p)) ∙ ap print (bare-placed at p) ∙ print-relabel (λ l. tt) p
-
   -- reading the printed text of a plan whose tokens are allowed gives the plan back, but for its labels
   pub read-print : (limit n : ℕ) (p : Plan L) → Allowed limit p → cells p ≤ n → read limit n (print p) ≡ PLAN (placed 0 p)
   unfolding read fit _then_ read-from
