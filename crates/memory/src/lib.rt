@@ -3,6 +3,7 @@
 ghost use mathlib.Core.Path.{_≡_};
 ghost use Prim.Native.Nat.{_+_, _*_, _<_, _≤_};
 ghost use lib.ListN.{length, set};
+ghost use Rattle.kinds.specs.Limits.{cellLimit};
 ghost use Rattle.plan.specs.Services.{cleared};
 ghost use Rattle.memory.specs.Memory.{start, close, link, whole};
 ghost use Rattle.memory.specs.Model.{Lent};
@@ -18,14 +19,14 @@ pub struct Port(pub u32);
 
 impl Port {
     pub fn start(cell: Cell) -> Port
-        requires { ⌜ cell .0 ≤ 4096 ⌝ }
+        requires { ⌜ cell .0 ≤ cellLimit ⌝ }
         ensures { λ r. ⌜ r .0 ≡ start (cell .0) ⌝ }
     {
         Port(2 * cell.0)
     }
 
     pub fn close(cell: Cell) -> Port
-        requires { ⌜ cell .0 ≤ 4096 ⌝ }
+        requires { ⌜ cell .0 ≤ cellLimit ⌝ }
         ensures { λ r. ⌜ r .0 ≡ close (cell .0) ⌝ }
     {
         Port(2 * cell.0 + 1)
