@@ -1,0 +1,6 @@
+pub mod Counting
+pub mod Dropping
+pub mod Freed
+pub mod Inside
+pub mod Starts
+pub mod Ways

@@ -1,0 +1,69 @@
+-- `free_block`: the loop's invariant is `Dropping`. The measure is how many ports are ahead.
+use borrow.Author.Needs.{needs}
+use lib.ListN.{length}
+use Rattle.memory.specs.Memory.{whole}
+use Rattle.blocks.proofs.Dropping.{Dropping, drop-small, drop-first, drop-low, close-less, drop-close, start-less, drop-start, drop-end}
+use Rattle.blocks.proofs.Ways.{ahead}
+use Rattle.blocks.proofs.free_block.Statement.{statement}
+use Rattle.blocks.proofs.free_block.Tie as tie
+
+abbrev Inv-loop : tie.InvT-loop
+Inv-loop memory₀ outer first end at₀ top₀ memory at top =
+    Dropping memory₀ (outer .0) (first .0) (end .0) (at₀ .0) (top₀ .0) memory (at .0) (top .0)
+
+abbrev μ-loop : tie.MeasureT-loop
+μ-loop memory₀ outer first end at₀ top₀ memory at top =
+    length (ahead (whole (outer .0) memory (first .0)) (outer .0) (end .0) (at .0))
+
+close-requires : tie.Need-close-requires Inv-loop μ-loop
+close-requires c κs = search (needs, drop-small)
+
+start-requires : tie.Need-start-requires Inv-loop μ-loop
+start-requires c κs = search (needs, drop-small)
+
+loop-holds : tie.Need-loop-holds Inv-loop μ-loop
+loop-holds c = search (needs, drop-first)
+
+link-of-requires : tie.Need-link-of-requires Inv-loop μ-loop
+link-of-requires c κs = (search needs, search drop-low)
+
+set-link-requires : tie.Need-set-link-requires Inv-loop μ-loop
+set-link-requires c κs = (search needs, search drop-low)
+
+loop-less : tie.Need-loop-less Inv-loop μ-loop
+loop-less c = search (needs, start-less)
+
+loop-again : tie.Need-loop-again Inv-loop μ-loop
+loop-again c = search (needs, drop-start)
+
+loop-less-2 : tie.Need-loop-less-2 Inv-loop μ-loop
+loop-less-2 c = search (needs, close-less)
+
+loop-again-2 : tie.Need-loop-again-2 Inv-loop μ-loop
+loop-again-2 c = search (needs, drop-close)
+
+same-length : tie.Need-same-length Inv-loop μ-loop
+same-length c = search needs
+
+returns : tie.Need-returns Inv-loop μ-loop
+returns c =
+    let l = c .before .before .before in
+    (drop-end (l .loop .inv) (c .if1 .left) _ (l .before .before .close .ensures) (l .before .start .ensures), search needs)
+
+pub free-block-spec : {M : Type 1} → statement M
+free-block-spec =
+    tie.close
+    (tie.spec
+    Inv-loop
+    μ-loop
+    close-requires
+    start-requires
+    loop-holds
+    link-of-requires
+    set-link-requires
+    loop-less
+    loop-again
+    loop-less-2
+    loop-again-2
+    same-length
+    returns)

@@ -1,0 +1,55 @@
+// The walks over one block. Its ports stand in one chain from its start to its own close, so each walk is one loop along the
+// links, and what stands around the block does not matter.
+ghost use mathlib.Core.Path.{_≡_};
+ghost use Prim.Native.Nat.{ℕ};
+ghost use mathlib.Core.List.{_∷_};
+ghost use lib.ListN.{length};
+ghost use Rattle.plan.specs.Plan.{Plan, cells, labels};
+ghost use Rattle.memory.specs.Held.{HeldIn};
+ghost use Rattle.memory.specs.Memory.{whole};
+ghost use Rattle.blocks.specs.Blocks.{BlockIn, HasBlock, Alone, Leaves, freed, first-free};
+use kinds::Cell;
+use memory::Held;
+use memory::Port;
+use memory::link_of;
+use memory::set_link;
+
+// How many cells the contents of a block have. The text itself is not read: it is what the contract tells the plan by.
+pub fn block_cells(text: &[u8], memory: &[u32], held: Held, block: Cell) -> u32
+    requires { ⌜ HasBlock (now text) (now memory) held (block .0) ⌝ }
+    ensures { λ r. ⌜ ((t b : Plan ℕ) → HeldIn (now (text .entry)) (now (memory .entry)) held t → BlockIn (block .0) b t → r ≡ cells b) ⌝ }
+{
+    let outer = held.outer;
+    let first = held.first;
+    let end = Port::close(block);
+    let mut port = link_of(memory, outer, first, Port::start(block));
+    let mut count: u32 = 0;
+    while port.0 != end.0 {
+        if port.0 % 2 == 0 {
+            count += 1;
+        }
+        port = link_of(memory, outer, first, port);
+    }
+    count
+}
+
+// Frees the cells of a block that no plan links to any more, in the order of their starts, and answers the first free cell
+// then. A free cell's start links to the next free one, so the way on is read before the cell is freed.
+pub fn free_block(memory: &mut [u32], outer: Cell, first: Port, free: Cell, block: Cell) -> Cell
+    requires { ⌜ Leaves (outer .0) (now memory) (first .0) (block .0) ⌝ }
+    ensures frees { λ r. ⌜ ((b : Plan ℕ) → Alone (outer .0) (whole (outer .0) (now (memory .entry)) (first .0)) (block .0) b → (whole (outer .0) (now (memory .exit)) (first .0) ≡ freed (whole (outer .0) (now (memory .entry)) (first .0)) (free .0) (block .0 ∷ labels b)) × (r .0 ≡ first-free (free .0) (block .0 ∷ labels b))) ⌝ }
+    ensures as_long { λ r. ⌜ length (now (memory .exit)) ≡ length (now (memory .entry)) ⌝ }
+{
+    let end = Port::close(block);
+    let mut at = Port::start(block);
+    let mut top = free;
+    while at.0 != end.0 {
+        let next = link_of(memory, outer, first, at);
+        if at.0 % 2 == 0 {
+            set_link(memory, outer, first, at, Port(top.0));
+            top = Cell(at.0 / 2);
+        }
+        at = next;
+    }
+    top
+}
