@@ -1,5 +1,5 @@
--- The piece that a port prints: each case of `piece-at` by the port's numbers, that a piece has the bytes of its port and as
--- many as its length says, that only numbers of the memory itself are asked for, and what stands in the output once a piece
+-- The piece that a port prints: each case of `piece-at` by the port's numbers, that a piece has as many bytes as its
+-- length says, that only numbers of the memory itself are asked for, and what stands in the output once a piece
 -- is put there.
 use Prim.Native.Nat.{ℕ, suc, _+_, _*_, _%_, _≤_, _<_}
 use mathlib.Core.Path.{_≡_, refl, sym, _∙_}
@@ -20,7 +20,6 @@ use Rattle.memory.specs.Model.{Lent}
 use Rattle.memory.specs.Pieces.{piece-at, piece-bytes, piece-length, InText, put-at}
 use Rattle.memory.specs.declared.print.Piece.{Piece}
 use Rattle.memory.specs.declared.print.Piece.the-variants.{Byte, Token}
-use Rattle.memory.proofs.Printing.{port-bytes}
 use Rattle.memory.proofs.Whole.{number-whole}
 
 -- the cases
@@ -60,16 +59,6 @@ module _ (w : List ℕ) (p : ℕ) where
     pub open-piece : datum w p ≢ 0 → datum w p ≢ 1 → datum w p ≢ 2 → datum w p ≢ 3 → datum w p ≢ 4 → Byte open-bracket ≡ piece-at w p
     unfolding piece-at
     open-piece a b c d t = rw (even, ne-eqb _ 0 a, ne-eqb _ 1 b, ne-eqb _ 2 c, ne-eqb _ 3 d, ne-eqb _ 4 t)
-
--- a piece has the bytes of its port
-
-either : {A B : Type 0} (f : A → B) (t : Bool) (x y : A) → f (cond t x y) ≡ cond t (f x) (f y)
-either f true x y = refl
-either f false x y = refl
-
-pub piece-prints : (text w : List ℕ) (p : ℕ) → piece-bytes text (piece-at w p) ≡ port-bytes text w p
-unfolding piece-at piece-bytes port-bytes
-piece-prints text w p = simp (either (piece-bytes text))
 
 pub length-piece : (text : List ℕ) (k : Piece) → InText text k → length (piece-bytes text k) ≡ piece-length k
 unfolding piece-bytes

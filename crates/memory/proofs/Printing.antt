@@ -2,11 +2,9 @@
 -- print the plan.
 use Prim.Native.Nat.{ℕ, _+_, _*_, _%_, _≤_}
 use mathlib.Core.Path.{_≡_, refl}
-use mathlib.Core.Bool.{cond}
 use mathlib.Core.List.{List, [], _∷_, _++_, append-assoc}
 use native.Mathlib.Omega.{arith}
-use lib.Dec.{eqb}
-use lib.ListN.{length, take, drop, length-append}
+use lib.ListN.{length, length-append}
 use Rattle.plan.specs.Plan.{
   Operator,
   op-a,
@@ -27,16 +25,11 @@ use Rattle.plan.specs.Plan.{
   close-brace,
 }
 use Rattle.memory.specs.Memory.{start, close, datum, link, operator-kind, token-kind, block-kind, ports, TokenAt, Says}
+use Rattle.memory.specs.Pieces.{piece-at, piece-bytes}
 
--- an odd port is a `]`; an even one is by its datum a letter, a token or a `[`
+-- the bytes of the piece that a port prints
 unfoldable pub port-bytes : (text w : List ℕ) → (port : ℕ) → List ℕ
-port-bytes text w port =
-    cond (eqb (port % 2) 1) (close-bracket ∷ [])
-    (cond (eqb (datum w port) 0) (97 ∷ [])
-    (cond (eqb (datum w port) 1) (98 ∷ [])
-    (cond (eqb (datum w port) 2) (99 ∷ [])
-    (cond (eqb (datum w port) 3) (100 ∷ [])
-    (cond (eqb (datum w port) 4) (take (link w (port + 1)) (drop (datum w (port + 1)) text)) (open-bracket ∷ []))))))
+port-bytes text w port = piece-bytes text (piece-at w port)
 
 unfoldable pub printed-ports : (text w : List ℕ) → List ℕ → List ℕ
 printed-ports text w [] = []
@@ -57,11 +50,11 @@ module _ (text w : List ℕ) (c : ℕ) where
   odd = omega arith
 
   pub close-bytes : port-bytes text w (close c) ≡ close-bracket ∷ []
-  unfolding port-bytes
+  unfolding port-bytes piece-at piece-bytes
   close-bytes = rw odd
 
   pub operator-bytes : (o : Operator) → datum w (start c) ≡ operator-kind o → port-bytes text w (start c) ≡ letter o ∷ []
-  unfolding port-bytes letter
+  unfolding port-bytes piece-at piece-bytes letter
   operator-bytes op-a h = rw (even, h)
   operator-bytes op-b h = rw (even, h)
   operator-bytes op-c h = rw (even, h)
@@ -69,11 +62,11 @@ module _ (text w : List ℕ) (c : ℕ) where
 
   pub token-bytes : (t : List ℕ) → datum w (start c) ≡ token-kind → TokenAt text (datum w (close c)) (link w (close c)) t
       → port-bytes text w (start c) ≡ open-brace ∷ (t ++ close-brace ∷ [])
-  unfolding port-bytes
+  unfolding port-bytes piece-at piece-bytes
   token-bytes t h k = rw (even, h) (k .1)
 
   pub block-bytes : datum w (start c) ≡ block-kind → port-bytes text w (start c) ≡ open-bracket ∷ []
-  unfolding port-bytes
+  unfolding port-bytes piece-at piece-bytes
   block-bytes h = rw (even, h)
 
 -- the ports of a plan print it

@@ -34,8 +34,8 @@ use Rattle.memory.specs.Pieces.{piece-at, piece-bytes, piece-length, InT
 use Rattle.memory.specs.declared.Held.{Held}
 use Rattle.memory.specs.declared.print.Piece.{Piece}
 use Rattle.memory.proofs.Lists.{below-split}
-use Rattle.memory.proofs.Pieces.{piece-prints, piece-whole, length-piece}
-use Rattle.memory.proofs.Printing.{printed-ports, print-ports, length-ports}
+use Rattle.memory.proofs.Pieces.{piece-whole, length-piece}
+use Rattle.memory.proofs.Printing.{printed-ports, print-ports, length-ports, port-bytes}
 use Rattle.memory.proofs.Whole.{first-whole}
 
 -- the ports from one on up to a stop, in so many steps
@@ -226,10 +226,10 @@ module _ (room : ℕ) (text m : List ℕ) (n first port put : ℕ) (walk : Walk 
 
       -- what is still to come begins with the piece
       pub to-come : drop put printed ≡ piece-bytes text piece ++ rest
-      unfolding printed-ports
+      unfolding printed-ports port-bytes
       to-come =
           sym (walk .so-far) ∙ ap (printed-ports text w) (here .on)
-          ∙ ap (_++ rest) (sym (piece-prints text w port) ∙ ap (piece-bytes text) (sym same))
+          ∙ ap (_++ rest) (ap (piece-bytes text) (sym same))
 
       put-within : put + piece-length piece ≤ length printed
       put-within =
