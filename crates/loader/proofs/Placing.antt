@@ -48,7 +48,7 @@ use Rattle.memory.proofs.Building.{close-block, finish, has-room, open-block, p
 pub record Placed (text : List ℕ) (n at : ℕ) (s : Model) : Type 0 where
   pub out : Around
   pub here : Plan ℕ
-  pub built : Building text n (s .numbers) (s .tail) (s .opened) (s .free) out here
+  pub built : Building text n (s .numbers) n [] (s .tail) (s .opened) (s .free) out here
   pub clean : Faultless tokenLimit 0 (take at text) (depth out) (length (seen out here))
   pub shows : shown out here ≡ without-blanks false (take at text)
   pub fine : Fine tokenLimit out here
@@ -58,7 +58,7 @@ pub record Placed (text : List ℕ) (n at : ℕ) (s : Model) : Type 0 where
 advance : {text : List ℕ} {n at : ℕ} {s : Model} (g : Placed text n at s) (piece : List ℕ) (at′ : ℕ) (s′ : Model) (c : ℕ) {e j : ℕ}
     → take at′ text ≡ take at text ++ piece → at′ ≤ length text → (r : Reached tokenLimit c (g .out) (g .here) piece e j)
     → Faultless tokenLimit (depth (g .out)) piece e j
-    → Building text n (s′ .numbers) (s′ .tail) (s′ .opened) (s′ .free) (r .then-out) (r .then-here)
+    → Building text n (s′ .numbers) n [] (s′ .tail) (s′ .opened) (s′ .free) (r .then-out) (r .then-here)
     → Placed text n at′ s′
 advance {text} {at = at} g piece at′ s′ c {e} {j} joined within r f b =
     let seen-more : length (seen (r .then-out) (r .then-here)) ≡ length (seen (g .out) (g .here)) + j =
@@ -75,7 +75,7 @@ advance {text} {at = at} g piece at′ s′ c {e} {j} joined within r f b =
 
 -- a `]` closes the innermost open block
 close-in : {text : List ℕ} {n at : ℕ} {s : Model} (out : Around) (here : Plan ℕ)
-    → Building text n (s .numbers) (s .tail) (s .opened) (s .free) out here
+    → Building text n (s .numbers) n [] (s .tail) (s .opened) (s .free) out here
     → Faultless tokenLimit 0 (take at text) (depth out) (length (seen out here)) → shown out here ≡ without-blanks false (take at text)
     → Fine tokenLimit out here → at < length text → class (getD text at 0) ≡ CLOSE → depth out ≢ 0
     → (s .opened < n) × Placed text n (at + 1) (with-close s)
@@ -192,13 +192,13 @@ pub place-end : {text : List ℕ} {n at : ℕ} {s : Model} {p : Plan ℕ} → re
     → (t : Plan ℕ) × (bare t ≡ bare p) × Holds text n (with-end n s) (s .free) t
 place-end {text} {n} {at} {s} {p} accepted g ended = go (g .out) (g .here) (g .built) (rw (take-all at text ended) at (g .clean)) (g .shows ∙ ap (without-blanks false) (take-all at text ended)) (g .fine)
   where
-    go : (out : Around) (here : Plan ℕ) → Building text n (s .numbers) (s .tail) (s .opened) (s .free) out here
+    go : (out : Around) (here : Plan ℕ) → Building text n (s .numbers) n [] (s .tail) (s .opened) (s .free) out here
         → Faultless tokenLimit 0 text (depth out) (length (seen out here)) → shown out here ≡ without-blanks false text → Fine tokenLimit out here
         → (t : Plan ℕ) × (bare t ≡ bare p) × Holds text n (with-end n s) (s .free) t
     go outermost here b f h k = (here, same-plan text n accepted here h k, finish b)
     go (inside l before out) here b f h k = plan-is-no-refusal (sym accepted ∙ row-refused (unclosed f))
 
 -- before the first byte: nothing is built
-pub place-start : {text : List ℕ} {n : ℕ} {s : Model} → Building text n (s .numbers) (s .tail) (s .opened) (s .free) outermost end → Placed text n 0 s
+pub place-start : {text : List ℕ} {n : ℕ} {s : Model} → Building text n (s .numbers) n [] (s .tail) (s .opened) (s .free) outermost end → Placed text n 0 s
 unfolding seen shown without-blanks print labels
 place-start b = record { out = outermost; here = end; built = b; clean = nothing; shows = refl; fine = tt; within = omega arith }

@@ -1,7 +1,7 @@
 -- A memory whose cells are all free, in order: one more cell that links to the next, and what `Building` says of it.
 use Prim.Native.Nat.{ℕ, _+_, _*_, _<_}
 use mathlib.Core.Path.{_≡_, ap, sym, _∙_}
-use mathlib.Core.List.{List}
+use mathlib.Core.List.{List, []}
 use native.Mathlib.Omega.{arith}
 use borrow.Author.Count.{below-more}
 use lib.ListN.{getD, set}
@@ -27,7 +27,7 @@ one-more n m m′ first port k lent low e stored h =
     (ap (λ p. getD (set w (2 * port + 1) (k + 1)) (2 * p + 1) 0) (sym e) ∙ getD-set-same w (2 * port + 1) (k + 1) 0 (omega arith)))
 
 pub fresh-building : {outer : Cell} {m : List ℕ} {b : Build} → Fresh outer m b → (text : List ℕ)
-    → Built text (outer .0) (model m b) outermost end
+    → Built text (outer .0) (model m b) (outer .0) [] outermost end
 fresh-building {outer} {m} {b} f text =
     rw (f .outer, f .tail, f .opened, f .free)
     (begin text (outer .0) (whole (outer .0) m (b .first .0)) (length-whole (outer .0) m (b .first .0) (f .lent)) (f .links))

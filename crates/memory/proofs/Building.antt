@@ -2,7 +2,7 @@
 -- cell's, it first writes what that cell says, which no cell in use can see.
 use Prim.Native.Nat.{ℕ, zero, suc, _+_, _*_, _/_, _≤_, _<_}
 use mathlib.Core.Path.{_≡_, refl, ap, sym, _∙_, subst, subst₂}
-use mathlib.Core.Logic.{_≢_}
+use mathlib.Core.Logic.{_≢_, ⊎-elim, inl, inr}
 use mathlib.Core.List.{List, [], _∷_, _++_, append-assoc, append-nil}
 use native.Mathlib.Omega.{arith}
 use native.Mathlib.Decide.{decLt}
@@ -29,6 +29,7 @@ use Rattle.memory.specs.Memory.{
   Distinct,
   Shared,
   Holds,
+  HoldsIn,
   innermost,
   KeepsOuter,
   ports-so-far,
@@ -38,10 +39,12 @@ use Rattle.memory.specs.Memory.{
 }
 use Rattle.memory.proofs.Lists.{
   absent-join,
+  absent-split,
   below-split,
   below-absent,
   distinct-split,
   not-before,
+  not-behind,
   last-append,
   last-in,
   linked-beside,
@@ -61,7 +64,7 @@ use Rattle.memory.proofs.Ports.{
   so-far-says-link,
   keeps-link,
 }
-use Rattle.memory.proofs.Sharing.{room-free, none-free, shared-beside, shared-used, shared-take, free-absent}
+use Rattle.memory.proofs.Sharing.{room-free, none-free, shared-beside, shared-distinct, shared-used, shared-take, free-absent}
 
 -- the start: every cell is free, in order
 
@@ -96,10 +99,11 @@ from-length i zero = refl
 from-length i (suc k) = ap suc (from-length (suc i) k)
 
 pub begin : (text : List ℕ) (n : ℕ) (w : List ℕ) → length w ≡ 4 * n + 2 → ((i : ℕ) → i < n → link w (start i) ≡ i + 1)
-    → Building text n w (start n) n 0 outermost end
+    → Building text n w n [] (start n) n 0 outermost end
 unfolding ports-so-far ports seen labels
 begin text n w room h =
     record {
+      rooted = inl refl;
       chain = tt;
       at-tail = refl;
       at-open = refl;
@@ -116,46 +120,102 @@ begin text n w room h =
           };
     }
 
+-- the start inside a cell in use
+pub begin-in : {text : List ℕ} {n : ℕ} {w : List ℕ} {root : ℕ} {others : List ℕ} {free : ℕ} → ¬ Absent root others → Shared n w free others
+    → Building text n w root others (start root) root free outermost end
+unfolding ports-so-far ports seen labels
+begin-in {n = n} {w = w} {others = others} {free = free} m s =
+    record {
+      rooted = inr m;
+      chain = tt;
+      at-tail = refl;
+      at-open = refl;
+      keeps = tt;
+      says = tt;
+      shared = subst (Shared n w free) (sym (append-nil others)) s;
+    }
+
 -- the tail
 
-last-here : (n : ℕ) (out : Around) (here : Plan ℕ) → last-of (start n) (ports-so-far out here) ≡ last-of (start (innermost n out)) (ports here)
+last-here : (root : ℕ) (out : Around) (here : Plan ℕ) → last-of (start root) (ports-so-far out here) ≡ last-of (start (innermost root out)) (ports here)
 unfolding ports-so-far
-last-here n outermost here = refl
-last-here n (inside c before out) here = last-append (start n) (start c) (ports-so-far out before) (ports here)
+last-here root outermost here = refl
+last-here root (inside c before out) here = last-append (start root) (start c) (ports-so-far out before) (ports here)
 
 says-here : (text w : List ℕ) (out : Around) (here : Plan ℕ) → SaysSoFar text w out here → Says text w here
 says-here text w outermost here h = h
 says-here text w (inside c before out) here h = h .2
 
 -- a close that is the last port of the sequence here is that of a block in it, and of none around it
-around-absent : (n c : ℕ) (out : Around) (here : Plan ℕ) → Distinct (seen out here)
-    → last-of (start (innermost n out)) (ports here) ≡ close c → Absent c (seen out end)
+around-absent : (root c : ℕ) (out : Around) (here : Plan ℕ) → Distinct (seen out here)
+    → last-of (start (innermost root out)) (ports here) ≡ close c → Absent c (seen out end)
 unfolding seen labels
-around-absent n c outermost here d e = tt
-around-absent n c (inside l before out) here d e =
+around-absent root c outermost here d e = tt
+around-absent root c (inside l before out) here d e =
     let last : ¬ Absent (close c) (start l ∷ ports here) = subst (λ p. ¬ Absent p (start l ∷ ports here)) e (last-in (start l) (ports here)) in
     let within : ¬ Absent c (labels here) = λ h. last (omega arith, close-absent c here h) in
     let apart = distinct-split (seen out before) (l ∷ labels here) d .1 .0 in
     absent-join c (seen out before) (l ∷ []) (not-before c (seen out before) (l ∷ labels here) d (λ h. within (h .1)))
     (λ z. within (subst (λ x. Absent x (labels here)) (sym z) apart), tt)
 
-module _ {text : List ℕ} {n : ℕ} {w : List ℕ} {tail opened free : ℕ} {out : Around} {here : Plan ℕ}
-    (b : Building text n w tail opened free out here) where
-  pub has-room : length (seen out here) < n → free < n
+module _ {text : List ℕ} {n : ℕ} {w : List ℕ} {root : ℕ} {others : List ℕ} {tail opened free : ℕ} {out : Around} {here : Plan ℕ}
+    (b : Building text n w root others tail opened free out here) where
+  pub has-room : length (others ++ seen out here) < n → free < n
   has-room = room-free (b .shared)
 
-  pub none-left : length (seen out here) ≡ n → free ≡ n
+  pub none-left : length (others ++ seen out here) ≡ n → free ≡ n
   none-left = none-free (b .shared)
 
-  in-chain : ¬ Absent tail (start n ∷ ports-so-far out here)
-  in-chain h =
-      last-in (start n) (ports-so-far out here) (subst (λ p. Absent p (start n ∷ ports-so-far out here)) (sym (b .at-tail)) h)
+  -- cell number n and the cells in use elsewhere, the cells built and the free ones, each once
+  pub all-distinct : Distinct ((n ∷ others) ++ (seen out here ++ b .shared .spare))
+  all-distinct =
+      subst (λ cs. Distinct (n ∷ cs)) (append-assoc others (seen out here) (b .shared .spare)) (shared-distinct (b .shared))
 
-  tail-used : ¬ Absent (tail / 2) (n ∷ seen out here)
-  tail-used h = in-chain (omega arith, so-far-absent tail out here (h .1))
+  built-distinct : Distinct (seen out here)
+  built-distinct =
+      distinct-split (seen out here) (b .shared .spare) (distinct-split (n ∷ others) (seen out here ++ b .shared .spare) all-distinct .1) .0
+
+  used-below : Below n others × Below n (seen out here)
+  used-below = below-split n others (seen out here) (below-split n (others ++ seen out here) (b .shared .spare) (b .shared .below) .0)
+
+  pub free-apart : free < n → Absent free (n ∷ others) × Absent free (seen out here)
+  free-apart h = let r = absent-split free others (seen out here) (free-absent (b .shared) h) in ((omega arith, r .0), r .1)
+
+  -- the root is in use, and no cell of what is built
+
+  root-in : ¬ Absent root (n ∷ others)
+  root-in h = ⊎-elim (h .0) (λ m. m (h .1)) (b .rooted)
+
+  pub root-low : root ≤ n
+  root-low = go (decLt n root)
+    where
+      go : Dec (n < root) → root ≤ n
+      go (yes h) = absurd (root-in (omega arith, below-absent n root others (omega arith) (used-below .0)))
+      go (no h) = omega arith
+
+  root-absent : Absent root (seen out here)
+  root-absent =
+      absent-split root (seen out here) (b .shared .spare) (not-behind root (n ∷ others) (seen out here ++ b .shared .spare) all-distinct root-in) .0
+
+  root-elsewhere : free < n → root ≢ free
+  root-elsewhere h e = root-in (subst (λ c. Absent c (n ∷ others)) (sym e) (free-apart h .0))
+
+  -- the tail is a port of the root or of what is built
+
+  in-chain : ¬ Absent tail (start root ∷ ports-so-far out here)
+  in-chain h =
+      last-in (start root) (ports-so-far out here) (subst (λ p. Absent p (start root ∷ ports-so-far out here)) (sym (b .at-tail)) h)
+
+  pub tail-built : tail ≢ start root → ¬ Absent (tail / 2) (seen out here)
+  tail-built other h = in-chain (other, so-far-absent tail out here h)
+
+  tail-used : ¬ Absent (tail / 2) (n ∷ (others ++ seen out here))
+  tail-used h =
+      let r = absent-split (tail / 2) others (seen out here) (h .1) in
+      tail-built (λ e. root-in (subst (λ c. Absent c (n ∷ others)) (omega arith) (h .0, r .0))) (r .1)
 
   tail-elsewhere : free < n → tail / 2 ≢ free
-  tail-elsewhere h e = tail-used (omega arith, subst (λ c. Absent c (seen out here)) (sym e) (free-absent (b .shared) h))
+  tail-elsewhere h e = tail-used (omega arith, subst (λ c. Absent c (others ++ seen out here)) (sym e) (free-absent (b .shared) h))
 
   pub tail-within : 2 * tail + 1 < length w
   tail-within = go (decLt (2 * tail + 1) (length w))
@@ -164,54 +224,53 @@ module _ {text : List ℕ} {n : ℕ} {w : List ℕ} {tail opened free : ℕ} {ou
       go (yes h) = h
       go (no h) =
           let room = b .shared .room in
-          let low = below-split n (seen out here) (b .shared .spare) (b .shared .below) .0 in
-          absurd (in-chain (omega arith, so-far-absent tail out here (below-absent n (tail / 2) (seen out here) (omega arith) low)))
+          let low = root-low in
+          absurd (tail-built (omega arith) (below-absent n (tail / 2) (seen out here) (omega arith) (used-below .1)))
 
   tail-loose : Loose w tail
   tail-loose =
-      subst (Loose w) (sym (last-here n out here) ∙ b .at-tail)
-      (last-loose text w (start (innermost n out)) here (start-loose w (innermost n out)) (says-here text w out here (b .says)))
-
-  used-distinct : Distinct (seen out here)
-  used-distinct = distinct-split (seen out here) (b .shared .spare) (b .shared .distinct) .0
+      subst (Loose w) (sym (last-here root out here) ∙ b .at-tail)
+      (last-loose text w (start (innermost root out)) here (start-loose w (innermost root out)) (says-here text w out here (b .says)))
 
 -- the tail linked on to a port: what holds of the numbers then
-record LinkedOn (text : List ℕ) (n : ℕ) (w : List ℕ) (free : ℕ) (out : Around) (here : Plan ℕ) (port : ℕ) : Type 0 where
-  chain : Linked w (start n ∷ (ports-so-far out here ++ port ∷ []))
-  keeps : KeepsOuter n w out
+record LinkedOn (text : List ℕ) (n : ℕ) (w : List ℕ) (root : ℕ) (others : List ℕ) (free : ℕ) (out : Around) (here : Plan ℕ) (port : ℕ) : Type 0 where
+  chain : Linked w (start root ∷ (ports-so-far out here ++ port ∷ []))
+  keeps : KeepsOuter root w out
   says : SaysSoFar text w out here
-  shared : Shared n w free (seen out here)
+  shared : Shared n w free (others ++ seen out here)
 
-module _ {text : List ℕ} {n : ℕ} {w : List ℕ} {tail opened free : ℕ} {out : Around} {here : Plan ℕ}
-    (b : Building text n w tail opened free out here) where
-  link-tail : (port : ℕ) → LinkedOn text n (set w (2 * tail + 1) port) free out here port
+module _ {text : List ℕ} {n : ℕ} {w : List ℕ} {root : ℕ} {others : List ℕ} {tail opened free : ℕ} {out : Around} {here : Plan ℕ}
+    (b : Building text n w root others tail opened free out here) where
+  link-tail : (port : ℕ) → LinkedOn text n (set w (2 * tail + 1) port) root others free out here port
   link-tail port =
       let xs = ports-so-far out here in
-      let low = below-split n (seen out here) (b .shared .spare) (b .shared .below) .0 in
-      let outside = so-far-absent (start n) out here (below-absent n (start n / 2) (seen out here) (omega arith) low) in
+      let outside = so-far-absent (start root) out here (subst (λ c. Absent c (seen out here)) (omega arith) (root-absent b)) in
       record {
         chain =
-            subst (λ p. Linked (set w (2 * p + 1) port) (start n ∷ (xs ++ port ∷ []))) (b .at-tail)
-            (linked-on w (start n) port xs (outside, so-far-distinct out here (used-distinct b))
+            subst (λ p. Linked (set w (2 * p + 1) port) (start root ∷ (xs ++ port ∷ []))) (b .at-tail)
+            (linked-on w (start root) port xs (outside, so-far-distinct out here (built-distinct b))
             (subst (λ p. 2 * p + 1 < length w) (sym (b .at-tail)) (tail-within b)) (b .chain));
         keeps =
-            keeps-link n w out end tail port
-            (λ c e. around-absent n c out here (used-distinct b) (sym (last-here n out here) ∙ b .at-tail ∙ e)) (b .keeps);
+            keeps-link root w out end tail port
+            (λ c e. around-absent root c out here (built-distinct b) (sym (last-here root out here) ∙ b .at-tail ∙ e)) (b .keeps);
         says = so-far-says-link text w out here tail port (tail-loose b) (b .says);
-        shared = shared-used (b .shared) (2 * tail + 1) port (subst (λ c. ¬ Absent c (n ∷ seen out here)) (omega arith) (tail-used b));
+        shared =
+            shared-used (b .shared) (2 * tail + 1) port (subst (λ c. ¬ Absent c (n ∷ (others ++ seen out here))) (omega arith) (tail-used b));
       }
 
   -- what is written in the first free cell, beside the link of its start, changes nothing
-  write-free : free < n → (i a : ℕ) → i / 4 ≡ free → i ≢ 2 * start free + 1 → Building text n (set w i a) tail opened free out here
+  write-free : free < n → (i a : ℕ) → i / 4 ≡ free → i ≢ 2 * start free + 1 → Building text n (set w i a) root others tail opened free out here
   write-free h i a cell beside =
-      let unused : Absent (i / 4) (seen out here) = subst (λ c. Absent c (seen out here)) (sym cell) (free-absent (b .shared) h) in
+      let unused : Absent (i / 4) (seen out here) = subst (λ c. Absent c (seen out here)) (sym cell) (free-apart b h .1) in
+      let other = root-elsewhere b h in
       record {
+        rooted = b .rooted;
         chain =
-            linked-beside w (start n ∷ ports-so-far out here) i a
+            linked-beside w (start root ∷ ports-so-far out here) i a
             (λ p e. (omega arith, so-far-absent p out here (subst (λ c. Absent c (seen out here)) (omega arith) unused))) (b .chain);
         at-tail = b .at-tail;
         at-open = b .at-open;
-        keeps = keeps-beside n w out here i a unused (b .keeps);
+        keeps = keeps-beside root w out here i a unused (b .keeps);
         says = so-far-says-beside text w out here i a unused (b .says);
         shared = shared-beside (b .shared) i a (λ c e. absurd (omega arith));
       }
@@ -219,21 +278,23 @@ module _ {text : List ℕ} {n : ℕ} {w : List ℕ} {tail opened free : ℕ} {ou
   -- one new cell at the tail, where w says it already
   new-cell : free < n → (opened′ : ℕ) (out′ : Around) (here′ : Plan ℕ) (next : ℕ)
       → ports-so-far out′ here′ ≡ ports-so-far out here ++ start free ∷ [] → seen out′ here′ ≡ seen out here ++ free ∷ []
-      → innermost n out′ ≡ opened′ → link w (start free) ≡ next → SaysSoFar text w out′ here′
-      → (KeepsOuter n (set w (2 * tail + 1) (start free)) out → KeepsOuter n (set w (2 * tail + 1) (start free)) out′)
-      → Building text n (set w (2 * tail + 1) (start free)) (start free) opened′ next out′ here′
+      → innermost root out′ ≡ opened′ → link w (start free) ≡ next → SaysSoFar text w out′ here′
+      → (KeepsOuter root (set w (2 * tail + 1) (start free)) out → KeepsOuter root (set w (2 * tail + 1) (start free)) out′)
+      → Building text n (set w (2 * tail + 1) (start free)) root others (start free) opened′ next out′ here′
   new-cell h opened′ out′ here′ next p l o f s k =
       let v = set w (2 * tail + 1) (start free) in
       let on = link-tail (start free) in
       let other = tail-elsewhere b h in
+      let in-use = ap (others ++_) l ∙ sym (append-assoc others (seen out here) (free ∷ [])) in
       record {
-        chain = subst (λ xs. Linked v (start n ∷ xs)) (sym p) (on .chain);
-        at-tail = ap (last-of (start n)) p ∙ last-append (start n) (start free) (ports-so-far out here) [];
+        rooted = b .rooted;
+        chain = subst (λ xs. Linked v (start root ∷ xs)) (sym p) (on .chain);
+        at-tail = ap (last-of (start root)) p ∙ last-append (start root) (start free) (ports-so-far out here) [];
         at-open = o;
         keeps = k (on .keeps);
         says = so-far-says-link text w out′ here′ tail (start free) (tail-loose b) s;
         shared =
-            subst₂ (λ x used. Shared n v x used) (getD-set-other w (2 * tail + 1) (2 * start free + 1) (start free) 0 (omega arith) ∙ f) (sym l)
+            subst₂ (λ x used. Shared n v x used) (getD-set-other w (2 * tail + 1) (2 * start free + 1) (start free) 0 (omega arith) ∙ f) (sym in-use)
             (shared-take (on .shared) h);
       }
 
@@ -264,11 +325,11 @@ block-written w c outer h =
       getD-set-same w₁ (2 * close c + 1) outer 0 (omega arith),
     )
 
-module _ {text : List ℕ} {n : ℕ} {w : List ℕ} {tail opened free : ℕ} {out : Around} {here : Plan ℕ}
-    (b : Building text n w tail opened free out here) (h : free < n) where
+module _ {text : List ℕ} {n : ℕ} {w : List ℕ} {root : ℕ} {others : List ℕ} {tail opened free : ℕ} {out : Around} {here : Plan ℕ}
+    (b : Building text n w root others tail opened free out here) (h : free < n) where
   pub put-operator : (o : Operator)
       → Building text n (set (set w (2 * start free) (operator-kind o)) (2 * tail + 1) (start free))
-      (start free) opened (link w (start free)) out (here then operator free o end)
+      root others (start free) opened (link w (start free)) out (here then operator free o end)
   unfolding ports labels
   put-operator o =
       let w₁ = set w (2 * start free) (operator-kind o) in
@@ -283,7 +344,7 @@ module _ {text : List ℕ} {n : ℕ} {w : List ℕ} {tail opened free : ℕ} {ou
   pub put-token : (at len : ℕ) (t : List ℕ) → TokenAt text at len t
       → Building text n
       (set (set (set (set w (2 * start free) token-kind) (2 * close free) at) (2 * close free + 1) len) (2 * tail + 1) (start free))
-      (start free) opened (link w (start free)) out (here then token free t end)
+      root others (start free) opened (link w (start free)) out (here then token free t end)
   unfolding ports labels
   put-token at len t bytes =
       let w₁ = set w (2 * start free) token-kind in
@@ -302,7 +363,7 @@ module _ {text : List ℕ} {n : ℕ} {w : List ℕ} {tail opened free : ℕ} {ou
 
   pub open-block
       : Building text n (set (set (set w (2 * start free) block-kind) (2 * close free + 1) opened) (2 * tail + 1) (start free))
-      (start free) free (link w (start free)) (inside free here out) end
+      root others (start free) free (link w (start free)) (inside free here out) end
   unfolding ports-so-far ports seen labels
   open-block =
       let w₁ = set w (2 * start free) block-kind in
@@ -319,11 +380,11 @@ module _ {text : List ℕ} {n : ℕ} {w : List ℕ} {tail opened free : ℕ} {ou
       (b₂ .says, written .0, tt) (λ k. (beside ∙ written .1 ∙ sym (b .at-open), k))
 
 -- the innermost block is closed: the cell that its close keeps is the innermost again
-close-cell : {text : List ℕ} {n : ℕ} {w : List ℕ} {tail opened free c : ℕ} {before here : Plan ℕ} {out : Around}
-    → Building text n w tail opened free (inside c before out) here
-    → Building text n (set w (2 * tail + 1) (close c)) (close c) (link w (close c)) free out (before then block c here end)
+close-cell : {text : List ℕ} {n : ℕ} {w : List ℕ} {root : ℕ} {others : List ℕ} {tail opened free c : ℕ} {before here : Plan ℕ} {out : Around}
+    → Building text n w root others tail opened free (inside c before out) here
+    → Building text n (set w (2 * tail + 1) (close c)) root others (close c) (link w (close c)) free out (before then block c here end)
 unfolding ports-so-far ports seen labels
-close-cell {text} {n} {w} {tail} {free = free} {c = c} {before = before} {here = here} {out = out} b =
+close-cell {text} {n} {w} {root} {others} {tail} {free = free} {c = c} {before = before} {here = here} {out = out} b =
     let v = set w (2 * tail + 1) (close c) in
     let on = link-tail b (close c) in
     let xs = ports-so-far out before ++ start c ∷ ports here in
@@ -332,21 +393,27 @@ close-cell {text} {n} {w} {tail} {free = free} {c = c} {before = before} {here =
     let nothing-behind = ap (λ us. seen out before ++ c ∷ us) (append-nil (labels here)) in
     let l : seen out (before then block c here end) ≡ seen out before ++ c ∷ labels here = seen-then out before (block c here end) ∙ nothing-behind in
     record {
-      chain = subst (λ us. Linked v (start n ∷ us)) (sym p) (on .chain);
-      at-tail = ap (last-of (start n)) p ∙ last-append (start n) (close c) xs [];
+      rooted = b .rooted;
+      chain = subst (λ us. Linked v (start root ∷ us)) (sym p) (on .chain);
+      at-tail = ap (last-of (start root)) p ∙ last-append (start root) (close c) xs [];
       at-open = sym (b .keeps .0);
       keeps = on .keeps .1;
       says = so-far-says-then text v out before (block c here end) (on .says .0) (on .says .1, on .says .2, tt);
-      shared = subst (λ used. Shared n v free used) (sym l) (on .shared);
+      shared = subst (λ used. Shared n v free (others ++ used)) (sym l) (on .shared);
     }
 
-pub close-block : {text : List ℕ} {n : ℕ} {w : List ℕ} {tail opened free c : ℕ} {before here : Plan ℕ} {out : Around}
-    → Building text n w tail opened free (inside c before out) here
-    → Building text n (set w (2 * tail + 1) (close opened)) (close opened) (link w (close opened)) free out (before then block c here end)
-close-block {text} {n} {w} {tail} {free = free} {c = c} {before = before} {here = here} {out = out} b =
-    subst (λ o. Building text n (set w (2 * tail + 1) (close o)) (close o) (link w (close o)) free out (before then block c here end)) (b .at-open) (close-cell b)
+pub close-block : {text : List ℕ} {n : ℕ} {w : List ℕ} {root : ℕ} {others : List ℕ} {tail opened free c : ℕ} {before here : Plan ℕ} {out : Around}
+    → Building text n w root others tail opened free (inside c before out) here
+    → Building text n (set w (2 * tail + 1) (close opened)) root others (close opened) (link w (close opened)) free out (before then block c here end)
+close-block {text} {n} {w} {root} {others} {tail} {free = free} {c = c} {before = before} {here = here} {out = out} b =
+    subst (λ o. Building text n (set w (2 * tail + 1) (close o)) root others (close o) (link w (close o)) free out (before then block c here end)) (b .at-open) (close-cell b)
+
+-- the end of the sequence: the last port links to the root's own close
+pub finish-in : {text : List ℕ} {n : ℕ} {w : List ℕ} {root : ℕ} {others : List ℕ} {tail opened free : ℕ} {here : Plan ℕ}
+    → Building text n w root others tail opened free outermost here → HoldsIn text n (set w (2 * tail + 1) (close root)) root others free here
+unfolding ports-so-far seen
+finish-in {root = root} b = let on = link-tail b (close root) in record { chain = on .chain; says = on .says; shared = on .shared }
 
 pub finish : {text : List ℕ} {n : ℕ} {w : List ℕ} {tail opened free : ℕ} {here : Plan ℕ}
-    → Building text n w tail opened free outermost here → Holds text n (set w (2 * tail + 1) (close n)) free here
-unfolding ports-so-far seen
-finish {n = n} b = let on = link-tail b (close n) in record { chain = on .chain; says = on .says; shared = on .shared }
+    → Building text n w n [] tail opened free outermost here → Holds text n (set w (2 * tail + 1) (close n)) free here
+finish b = let h = finish-in b in record { chain = h .chain; says = h .says; shared = h .shared }

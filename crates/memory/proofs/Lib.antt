@@ -1,4 +1,5 @@
 pub mod Beginning
+pub mod Beside
 pub mod Building
 pub mod Clearing
 pub mod Copying

@@ -5,7 +5,7 @@
 -- close is the end mark.
 use Prim.Native.Nat.{ℕ, suc, _+_, _*_, _≤_, _<_}
 use mathlib.Core.Path.{_≡_}
-use mathlib.Core.Logic.{_≢_}
+use mathlib.Core.Logic.{_≢_, _⊎_}
 use mathlib.Core.List.{List, [], _∷_, _++_}
 use lib.ListN.{length, getD, take, drop}
 use Rattle.plan.specs.Plan.{
@@ -137,10 +137,19 @@ abbrev pub last-of : ℕ → List ℕ → ℕ
 last-of x [] = x
 last-of x (y ∷ ys) = last-of y ys
 
-pub record Building (text : List ℕ) (n : ℕ) (w : List ℕ) (tail opened free : ℕ) (out : Around) (here : Plan ℕ) : Type 0 where
-  pub chain : Linked w (start n ∷ ports-so-far out here)
-  pub at-tail : last-of (start n) (ports-so-far out here) ≡ tail
-  pub at-open : innermost n out ≡ opened
-  pub keeps : KeepsOuter n w out
+-- The sequence that is built is the inside of the cell `root`: cell number n, or one of the cells `others`, which are in use
+-- elsewhere and not a part of it.
+pub record Building (text : List ℕ) (n : ℕ) (w : List ℕ) (root : ℕ) (others : List ℕ) (tail opened free : ℕ) (out : Around) (here : Plan ℕ) : Type 0 where
+  pub rooted : (root ≡ n) ⊎ (¬ Absent root others)
+  pub chain : Linked w (start root ∷ ports-so-far out here)
+  pub at-tail : last-of (start root) (ports-so-far out here) ≡ tail
+  pub at-open : innermost root out ≡ opened
+  pub keeps : KeepsOuter root w out
   pub says : SaysSoFar text w out here
-  pub shared : Shared n w free (seen out here)
+  pub shared : Shared n w free (others ++ seen out here)
+
+-- a sequence inside the cell `root` that is built to its end
+pub record HoldsIn (text : List ℕ) (n : ℕ) (w : List ℕ) (root : ℕ) (others : List ℕ) (free : ℕ) (t : Plan ℕ) : Type 0 where
+  pub chain : Linked w (start root ∷ (ports t ++ close root ∷ []))
+  pub says : Says text w t
+  pub shared : Shared n w free (others ++ labels t)

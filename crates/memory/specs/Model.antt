@@ -28,8 +28,8 @@ model m b =
     record { numbers = whole (b .outer .0) m (b .first .0); tail = b .tail .0; opened = b .opened .0; free = b .free .0 }
 
 -- what the model holds, as far as it is built
-abbrev pub Built : (text : List ℕ) → (n : ℕ) → Model → Around → Plan ℕ → Type 0
-Built text n s out here = Building text n (s .numbers) (s .tail) (s .opened) (s .free) out here
+abbrev pub Built : (text : List ℕ) → (n : ℕ) → Model → (root : ℕ) → (others : List ℕ) → Around → Plan ℕ → Type 0
+Built text n s root others out here = Building text n (s .numbers) root others (s .tail) (s .opened) (s .free) out here
 
 -- a step can be made: there is room, and what is kept beside the numbers is within it
 pub record Ready (m : List ℕ) (b : Build) : Type 0 where

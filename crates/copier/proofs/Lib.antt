@@ -1,0 +1,5 @@
+pub mod Ahead
+pub mod Going
+pub mod Likes
+pub mod Starting
+pub mod Walk

@@ -1,0 +1,181 @@
+-- The turns of the loop that copies a block, with the memory and what is kept beside it. The walk is told of every plan that
+-- the memory holds and every contents that the block has in it, and one such pair there is.
+use Prim.Native.Nat.{ℕ, _+_, _*_, _≤_, _<_}
+use mathlib.Core.Path.{_≡_, refl, ap, sym, _∙_, subst}
+use mathlib.Core.Logic.{_≢_}
+use mathlib.Core.List.{List, [], _∷_}
+use native.Mathlib.Omega.{arith}
+use lib.ListN.{length, set, length-append, length-set}
+use Rattle.kinds.specs.declared.Cell.{Cell}
+use Rattle.plan.specs.Plan.{Plan, labels}
+use Rattle.plan.proofs.Plans.{length-labels}
+use Rattle.memory.specs.Memory.{start, close, link, whole, block-kind, Shared}
+use Rattle.memory.specs.Model.{Lent, Ready, Stepped, model}
+use Rattle.memory.specs.declared.Build.{Build}
+use Rattle.memory.specs.declared.Held.{Held}
+use Rattle.memory.specs.declared.Port.{Port}
+use Rattle.memory.proofs.Lists.{below-split}
+use Rattle.memory.proofs.Steps.{building-ready, still-lent}
+use Rattle.memory.proofs.Whole.{lent-kept, set-whole}
+use Rattle.copier.specs.Copying.{Copies, CopyHeld, LikeReady, like}
+use Rattle.copier.proofs.Ahead.{steps}
+use Rattle.copier.proofs.Going.{Going, Started, Turn, beside, going-end, in-below, turn, turn-link}
+use Rattle.copier.proofs.Starting.{block-used, first-going, has-free, shared-started, started}
+
+-- what the code has made before the loop: the first free cell is a block, nothing is built in it, and the walk through the
+-- contents of the block c goes from its first port up to its close
+pub record Prepared (m : List ℕ) (h : Held) (c : ℕ) (m₀ : List ℕ) (b₀ : Build) (stop port : ℕ) : Type 0 where
+  pub lent : Lent (h .outer .0) m
+  pub outer : b₀ .outer ≡ h .outer
+  pub first : b₀ .first ≡ h .first
+  pub opened : b₀ .opened ≡ h .free
+  pub tail : b₀ .tail .0 ≡ start (h .free .0)
+  pub free : b₀ .free .0 ≡ link (whole (h .outer .0) m (h .first .0)) (start (h .free .0))
+  pub stored : m₀ ≡ set m (2 * start (h .free .0)) block-kind
+  pub stops : stop ≡ close c
+  pub enters : port ≡ link (whole (h .outer .0) m₀ (h .first .0)) (start c)
+
+abbrev pub begun : Held → (tail next : Port) → Build
+begun h tail next = record { outer = h .outer; first = h .first; tail = tail; opened = h .free; free = record { 0 = next .0 } }
+
+pub prepared : (m : List ℕ) (h : Held) (c : ℕ) (tail next entry end port : Port) → Lent (h .outer .0) m → tail .0 ≡ start (h .free .0)
+    → next .0 ≡ link (whole (h .outer .0) m (h .first .0)) (tail .0) → end .0 ≡ close c → entry .0 ≡ start c
+    → port .0 ≡ link (whole (h .outer .0) (set m (2 * tail .0) 5) (h .first .0)) (entry .0)
+    → Prepared m h c (set m (2 * tail .0) 5) (begun h tail next) (end .0) (port .0)
+prepared m h c tail next entry end port lent at behind stops is enters =
+    record {
+      lent = lent;
+      outer = refl;
+      first = refl;
+      opened = refl;
+      tail = at;
+      free = behind ∙ ap (link (whole (h .outer .0) m (h .first .0))) at;
+      stored = ap (λ p. set m (2 * p) 5) at;
+      stops = stops;
+      enters = enters ∙ ap (link (whole (h .outer .0) (set m (2 * tail .0) 5) (h .first .0))) is;
+    }
+
+-- the cells that are asked for are lent
+module _ {text m : List ℕ} {h : Held} {c : ℕ} {t b : Plan ℕ} (k : Copies text m h c t b) where
+  pub copy-low : h .free .0 < h .outer .0
+  copy-low = has-free (k .held) (let room = k .room in omega arith)
+
+  pub block-low : c < h .outer .0
+  block-low =
+      in-below (h .outer .0) c (labels t) (below-split (h .outer .0) (labels t) (k .held .shared .spare) (k .held .shared .below) .0) (block-used c b t (k .found))
+
+module _ {text m : List ℕ} {h : Held} {c : ℕ} {m₀ : List ℕ} {b₀ : Build} {stop port : ℕ} {t b : Plan ℕ} (p : Prepared m h c m₀ b₀ stop port)
+    (k : Copies text m h c t b) where
+  numbers-are : model m₀ b₀ .numbers ≡ set (whole (h .outer .0) m (h .first .0)) (2 * start (h .free .0)) block-kind
+  numbers-are =
+      let low = copy-low k in
+      rw (p .outer, p .first, p .stored) (set-whole (h .outer .0) m (h .first .0) (p .lent) (2 * start (h .free .0)) block-kind (omega arith))
+
+  pub prepared-started : Started text (h .outer .0) (model m₀ b₀ .numbers) (h .free .0) t
+  prepared-started = let room = k .room in rw numbers-are (started (k .held) (omega arith))
+
+  prepared-shared : Shared (h .outer .0) (model m₀ b₀ .numbers) (b₀ .free .0) (beside t (h .free .0))
+  prepared-shared = let room = k .room in rw (numbers-are, p .free) (shared-started (k .held) (omega arith))
+
+  pub prepared-going : Going text (h .outer .0) (model m₀ b₀ .numbers) (h .free .0) stop t b (model m₀ b₀) port
+  prepared-going =
+      let room = k .room in
+      let enters : port ≡ link (model m₀ b₀ .numbers) (start c) = rw (p .outer, p .first) (p .enters) in
+      rw (p .stops, enters)
+      (first-going text (h .outer .0) c (h .free .0) t b (model m₀ b₀) prepared-started (k .found) prepared-shared (p .tail)
+      (ap (λ (z : Cell). z .0) (p .opened)) (omega (arith, length-append (labels t) (h .free .0 ∷ []), length-labels t)))
+
+-- where the loop stands
+pub record Walk (text m₀ : List ℕ) (outer copy : Cell) (b₀ : Build) (stop port₀ : ℕ) (m : List ℕ) (b : Build) (port : ℕ) : Type 0 where
+  pub lent : Lent (outer .0) m
+  pub same : b .outer ≡ outer
+  pub as-long : length m ≡ length m₀
+  pub plan : Plan ℕ
+  pub contents : Plan ℕ
+  pub first : Going text (outer .0) (model m₀ b₀ .numbers) (copy .0) stop plan contents (model m₀ b₀) port₀
+  pub each : (t c : Plan ℕ) → Going text (outer .0) (model m₀ b₀ .numbers) (copy .0) stop t c (model m₀ b₀) port₀
+      → Going text (outer .0) (model m₀ b₀ .numbers) (copy .0) stop t c (model m b) port
+
+module _ {text m₀ : List ℕ} {outer copy : Cell} {b₀ : Build} {stop port₀ : ℕ} {m : List ℕ} {b : Build} {port : ℕ}
+    (o : Walk text m₀ outer copy b₀ stop port₀ m b port) where
+  now : Going text (outer .0) (model m₀ b₀ .numbers) (copy .0) stop (o .plan) (o .contents) (model m b) port
+  now = o .each (o .plan) (o .contents) (o .first)
+
+  cells-same : b .outer .0 ≡ outer .0
+  cells-same = ap (λ (z : Cell). z .0) (o .same)
+
+  pub walk-ready : Ready m b
+  walk-ready = building-ready cells-same (o .lent) (now .built)
+
+  pub tail-low : b .tail .0 ≤ start (outer .0)
+  tail-low = let r = walk-ready .tail in let e = cells-same in omega arith
+
+  module _ (more : port ≢ stop) where
+    this : Turn text (outer .0) (model m₀ b₀ .numbers) (copy .0) stop (o .plan) (o .contents) (model m b) port
+    this = turn now more
+
+    pub walk-like : LikeReady m b port
+    walk-like =
+        let e = cells-same in
+        let low = this .below in
+        record {
+          ready = walk-ready;
+          below = omega arith;
+          closes = λ odd. (let l = this .closes odd in omega arith);
+          begins = λ even. (let l = this .begins even in omega arith);
+        }
+
+    pub port-low : port ≤ start (outer .0)
+    port-low = let low = this .below in omega arith
+
+    -- the next port
+    module _ {m′ : List ℕ} {b′ : Build} (p : Stepped m b m′ b′ (like (model m b) port)) (next : ℕ)
+        (e : next ≡ link (whole (outer .0) m′ (b′ .first .0)) port) where
+      outer-same : b′ .outer ≡ outer
+      outer-same = p .outer ∙ o .same
+
+      next-is : {t c : Plan ℕ} → Turn text (outer .0) (model m₀ b₀ .numbers) (copy .0) stop t c (model m b) port → next ≡ link (model m₀ b₀ .numbers) port
+      next-is u =
+          e ∙ ap (λ (z : Cell). link (whole (z .0) m′ (b′ .first .0)) port) (sym outer-same) ∙ ap (λ s. link (s .numbers) port) (p .steps) ∙ turn-link u
+
+      pub walk-on : Walk text m₀ outer copy b₀ stop port₀ m′ b′ next
+      walk-on =
+          record {
+            lent = still-lent p (o .lent);
+            same = outer-same;
+            as-long = p .as-long ∙ o .as-long;
+            plan = o .plan;
+            contents = o .contents;
+            first = o .first;
+            each = λ t c f. let u = turn (o .each t c f) more in rw (p .steps, next-is u) (u .next);
+          }
+
+      pub walk-less : steps (model m₀ b₀ .numbers) stop (2 * outer .0) next < steps (model m₀ b₀ .numbers) stop (2 * outer .0) port
+      walk-less = rw (next-is this) (this .less)
+
+pub walk-first : {text m : List ℕ} {h : Held} {c : ℕ} {m₀ : List ℕ} {b₀ : Build} {stop port : ℕ} {t b : Plan ℕ} → Prepared m h c m₀ b₀ stop port
+    → Copies text m h c t b → Walk text m₀ (h .outer) (h .free) b₀ stop port m₀ b₀ port
+walk-first {m = m} {h = h} {t = t} {b = b} p k =
+    record {
+      lent = lent-kept (p .lent) (ap length (p .stored) ∙ length-set m (2 * start (h .free .0)) block-kind);
+      same = p .outer;
+      as-long = refl;
+      plan = t;
+      contents = b;
+      first = prepared-going p k;
+      each = λ u d g. g;
+    }
+
+-- behind the last port, once the copy's last port is linked to its own close
+module _ {text m : List ℕ} {h : Held} {c : ℕ} {m₀ : List ℕ} {b₀ : Build} {stop port₀ : ℕ} {m₁ : List ℕ} {b₁ : Build} {port : ℕ}
+    (p : Prepared m h c m₀ b₀ stop port₀) (o : Walk text m₀ (h .outer) (h .free) b₀ stop port₀ m₁ b₁ port) where
+  pub walk-end : port ≡ stop → (m′ : List ℕ) (first to : ℕ)
+      → whole (h .outer .0) m′ first ≡ set (whole (h .outer .0) m₁ (b₁ .first .0)) (2 * b₁ .tail .0 + 1) to → to ≡ close (h .free .0)
+      → (t b : Plan ℕ) → Copies text m h c t b → CopyHeld text (h .outer .0) (whole (h .outer .0) m′ first) (b₁ .free .0) (h .free .0) t b
+  walk-end ended m′ first to linked is t b k =
+      rw (linked, is)
+      (subst (λ (z : Cell). CopyHeld text (h .outer .0) (set (whole (z .0) m₁ (b₁ .first .0)) (2 * b₁ .tail .0 + 1) (close (h .free .0))) (b₁ .free .0) (h .free .0) t b)
+      (o .same) (going-end (o .each t b (prepared-going p k)) ended (prepared-started p k)))
+
+  pub walk-long : length m₁ ≡ length m
+  walk-long = o .as-long ∙ ap length (p .stored) ∙ length-set m (2 * start (h .free .0)) block-kind

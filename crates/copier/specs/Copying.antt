@@ -1,0 +1,64 @@
+-- What it means to copy a block: its contents, told by the plan that they stand in, are built once more inside a cell that was
+-- free and that no port links to yet. And the step of the builder that puts the like of a port.
+use Prim.Native.Nat.{ℕ, _+_, _%_, _≤_, _<_}
+use mathlib.Core.Path.{_≡_}
+use mathlib.Core.Bool.{cond}
+use mathlib.Core.Logic.{_≢_, _⊎_}
+use mathlib.Core.List.{List, [], _∷_, _++_}
+use lib.Dec.{eqb}
+use Rattle.plan.specs.Plan.{Plan, end, operator, token, block, bare, cells, labels}
+use Rattle.memory.specs.Held.{HeldIn}
+use Rattle.memory.specs.Memory.{start, close, datum, link, whole, block-kind, ports, Linked, Says, Shared}
+use Rattle.memory.specs.Model.{Lent, Model, Ready, with-block, with-close, with-item, with-token}
+use Rattle.memory.specs.declared.Build.{Build}
+use Rattle.memory.specs.declared.Held.{Held}
+use Rattle.copier.specs.declared.Copied.{Copied}
+
+-- in the plan, at any depth, stands a block at the cell c with the contents b
+abbrev pub BlockIn : (c : ℕ) → (b : Plan ℕ) → Plan ℕ → Type 0
+BlockIn c b end = ⊥
+BlockIn c b (operator d o p) = BlockIn c b p
+BlockIn c b (token d t p) = BlockIn c b p
+BlockIn c b (block d q p) = ((d ≡ c) × (q ≡ b)) ⊎ (BlockIn c b q ⊎ BlockIn c b p)
+
+-- the memory holds the plan t, in it stands a block at the cell c with the contents b, and a copy of it finds room
+pub record Copies (text m : List ℕ) (h : Held) (c : ℕ) (t b : Plan ℕ) : Type 0 where
+  pub held : HeldIn text m h t
+  pub found : BlockIn c b t
+  pub room : cells t + (1 + cells b) ≤ h .outer .0
+
+pub record Copyable (text m : List ℕ) (h : Held) (c : ℕ) : Type 0 where
+  pub lent : Lent (h .outer .0) m
+  pub plan : Plan ℕ
+  pub contents : Plan ℕ
+  pub copies : Copies text m h c plan contents
+
+-- the plan t as before, and beside it a block at the cell `copy` with contents that are b but for their cells
+pub record CopyHeld (text : List ℕ) (n : ℕ) (w : List ℕ) (free copy : ℕ) (t b : Plan ℕ) : Type 0 where
+  pub contents : Plan ℕ
+  pub alike : bare contents ≡ bare b
+  pub chain : Linked w (start n ∷ (ports t ++ close n ∷ []))
+  pub says : Says text w t
+  pub kind : datum w (start copy) ≡ block-kind
+  pub copy-chain : Linked w (start copy ∷ (ports contents ++ close copy ∷ []))
+  pub copy-says : Says text w contents
+  pub shared : Shared n w free (labels t ++ copy ∷ labels contents)
+
+abbrev pub CopyMade : (text m : List ℕ) → Copied → (t b : Plan ℕ) → Type 0
+CopyMade text m r t b =
+    CopyHeld text (r .held .outer .0) (whole (r .held .outer .0) m (r .held .first .0)) (r .held .free .0) (r .copy .0) t b
+
+-- the step that puts the like of a port: an odd port is a `]`; an even one is by its datum a block's `[`, a token or an operator
+unfoldable pub like : Model → (port : ℕ) → Model
+like s port =
+    cond (eqb (port % 2) 1) (with-close s)
+    (cond (eqb (datum (s .numbers) port) 5) (with-block s)
+    (cond (eqb (datum (s .numbers) port) 4) (with-token s (datum (s .numbers) (port + 1)) (link (s .numbers) (port + 1)))
+    (with-item s (datum (s .numbers) port))))
+
+-- a port of a lent cell, whose like can be put: a `]` has a block to close, and any other finds a free cell
+pub record LikeReady (m : List ℕ) (b : Build) (port : ℕ) : Type 0 where
+  pub ready : Ready m b
+  pub below : port < start (b .outer .0)
+  pub closes : port % 2 ≡ 1 → b .opened .0 < b .outer .0
+  pub begins : port % 2 ≢ 1 → b .free .0 < b .outer .0

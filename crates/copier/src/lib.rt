@@ -1,0 +1,89 @@
+// Copies a block of a plan in the memory into free cells, as a block that no port links to yet: the ports of its contents
+// stand in one chain, and for each of them the builder puts its like. No recursion, and nothing is kept beside the copy.
+ghost use mathlib.Core.Path.{_≡_};
+ghost use Prim.Native.Nat.{ℕ};
+ghost use lib.ListN.{length};
+ghost use Rattle.plan.specs.Plan.{Plan};
+ghost use Rattle.memory.specs.Model.{Stepped, model};
+ghost use Rattle.copier.specs.Copying.{Copies, Copyable, CopyMade, LikeReady, like};
+use builder::close_block;
+use builder::open_block;
+use builder::put_operator;
+use builder::put_token;
+use kinds::Cell;
+use kinds::Place;
+use kinds::Token;
+use memory::BLOCK_KIND;
+use memory::Build;
+use memory::Held;
+use memory::Port;
+use memory::TOKEN_KIND;
+use memory::link_of;
+use memory::set_link;
+
+// The plan as it is held with the copy beside it, and the cell of the copy.
+pub struct Copied {
+    pub held: Held,
+    pub copy: Cell,
+}
+
+// Puts the like of a port behind the last item.
+fn put_like(memory: &mut [u32], b: Build, port: Port) -> Build
+    requires { ⌜ LikeReady (now memory) b (port .0) ⌝ }
+    ensures { λ r. ⌜ Stepped (now (memory .entry)) b (now (memory .exit)) r (like (model (now (memory .entry)) b) (port .0)) ⌝ }
+{
+    if port.0 % 2 == 1 {
+        return close_block(memory, b);
+    }
+    let number = 2 * port.0 as usize;
+    let kind = memory[number];
+    if kind == BLOCK_KIND {
+        return open_block(memory, b);
+    }
+    if kind == TOKEN_KIND {
+        let token = Token {
+            at: Place(memory[number + 2]),
+            len: memory[number + 3],
+        };
+        return put_token(memory, b, token);
+    }
+    put_operator(memory, b, kind)
+}
+
+// Copies the block at a cell into the first free cells.
+pub fn copy_block(text: &[u8], memory: &mut [u32], held: Held, block: Cell) -> Copied
+    requires { ⌜ Copyable (now text) (now memory) held (block .0) ⌝ }
+    ensures made { λ r. ⌜ ((t b : Plan ℕ) → Copies (now (text .entry)) (now (memory .entry)) held (block .0) t b → CopyMade (now (text .entry)) (now (memory .exit)) r t b) ⌝ }
+    ensures same_cells { λ r. ⌜ r .held .outer ≡ held .outer ⌝ }
+    ensures as_long { λ r. ⌜ length (now (memory .exit)) ≡ length (now (memory .entry)) ⌝ }
+{
+    let outer = held.outer;
+    let first = held.first;
+    let copy = held.free;
+    let tail = Port::start(copy);
+    let next = link_of(memory, outer, first, tail);
+    let number = 2 * tail.0 as usize;
+    memory[number] = BLOCK_KIND;
+    let mut build = Build {
+        outer,
+        first,
+        tail,
+        opened: copy,
+        free: Cell(next.0),
+    };
+    let end = Port::close(block);
+    let mut port = link_of(memory, outer, first, Port::start(block));
+    while port.0 != end.0 {
+        build = put_like(memory, build, port);
+        let begin = build.first;
+        port = link_of(memory, outer, begin, port);
+    }
+    let begin = build.first;
+    let last = build.tail;
+    let free = build.free;
+    let first = set_link(memory, outer, begin, last, Port::close(copy));
+    Copied {
+        held: Held { outer, first, free },
+        copy,
+    }
+}
