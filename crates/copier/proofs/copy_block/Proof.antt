@@ -86,8 +86,7 @@ link-of-requires-2 c κs =
     (lent-kept (k .lent) (simp length-set), omega (arith, c .start2 .ensures, block-low (k .copies)))
 
 loop-holds : tie.Need-loop-holds Inv-loop μ-loop
-loop-holds c =
-    walk-first (ready c) (entry c .pre .copies)
+loop-holds c = walk-first (ready c) (entry c .pre .copies)
 
 put-like-requires : tie.Need-put-like-requires Inv-loop μ-loop
 put-like-requires c κs =
@@ -114,7 +113,7 @@ loop-again c =
 
 close-requires-2 : tie.Need-close-requires-2 Inv-loop μ-loop
 close-requires-2 c κs =
-    let k = c .before .before .before .before .before .before .before .before .before .before .before .before .before .before .before .before .before .before .before .before .before .pre in omega (arith, copy-low (k .copies), k .lent .few)
+    let k = entry (c .before .before .before .before .before .before .before .before) .pre in omega (arith, copy-low (k .copies), k .lent .few)
 
 set-link-requires : tie.Need-set-link-requires Inv-loop μ-loop
 set-link-requires c κs =
