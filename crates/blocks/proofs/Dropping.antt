@@ -9,8 +9,8 @@ use lib.ListN.{length, set}
 use lib.Seq.{getD-set-other}
 use Rattle.plan.specs.Plan.{Plan, labels}
 use Rattle.memory.specs.Memory.{start, close, link, whole}
-use Rattle.memory.specs.Model.{Lent}
-use Rattle.memory.proofs.Whole.{lent-kept, first-whole}
+use Rattle.memory.specs.Model.{Lent, Aside}
+use Rattle.memory.proofs.Whole.{aside-on, aside-same, lent-kept, first-whole}
 use Rattle.blocks.specs.Blocks.{Alone, Leaves, freed, first-free}
 use Rattle.blocks.proofs.Starts.{starts, starts-even, starts-odd, starts-block, way-through}
 use Rattle.blocks.proofs.Ways.{ahead, leads-beside, ahead-end, way-ahead, way-from, Way, Turn, turn}
@@ -21,7 +21,7 @@ to-free w n stop port = starts (ahead w n stop port)
 
 pub record Dropping (m₀ : List ℕ) (n first stop from free₀ : ℕ) (m : List ℕ) (port free : ℕ) : Type 0 where
   pub lent : Lent n m
-  pub as-long : length m ≡ length m₀
+  pub aside : Aside n m₀ m
   pub way : Way (whole n m first) n stop port (ahead (whole n m first) n stop port)
   pub numbers : freed (whole n m first) free (to-free (whole n m first) n stop port)
       ≡ freed (whole n m₀ first) free₀ (to-free (whole n m₀ first) n stop from)
@@ -33,7 +33,7 @@ module _ {n : ℕ} {m : List ℕ} {first c : ℕ} (h : Leaves n m first c) where
 
   pub drop-first : (stop port free : ℕ) → stop ≡ close c → port ≡ start c → Dropping m n first stop port free m port free
   drop-first stop port free e s =
-      rw (e, s) record { lent = h .lent; as-long = refl; way = way-from (way-through (h .alone)); numbers = refl; frees = refl }
+      rw (e, s) record { lent = h .lent; aside = aside-same; way = way-from (way-through (h .alone)); numbers = refl; frees = refl }
 
 -- a store at a link of a lent cell leaves the first port as it is
 first-stays : (n : ℕ) (m m′ : List ℕ) (first r port to : ℕ) → Lent n m → Lent n m′ → port < start n
@@ -64,16 +64,16 @@ module _ {m₀ : List ℕ} {n first stop from free₀ : ℕ} {m : List ℕ} {por
         let same : to-free w n stop (link w port) ≡ to-free w n stop port = sym (ap starts (here .on) ∙ starts-odd port _ odd) in
         rw onward record {
           lent = h .lent;
-          as-long = h .as-long;
+          aside = h .aside;
           way = here .way;
           numbers = ap (freed w free) same ∙ h .numbers;
           frees = ap (first-free free) same ∙ h .frees;
         }
 
     -- a start's cell is freed
-    module _ (m′ : List ℕ) (r : ℕ) (stored : whole n m′ r ≡ set w (2 * port + 1) free) (long : length m′ ≡ length m) where
+    module _ (m′ : List ℕ) (r : ℕ) (stored : whole n m′ r ≡ set w (2 * port + 1) free) (beside : Aside n m m′) where
       lent′ : Lent n m′
-      lent′ = lent-kept (h .lent) long
+      lent′ = lent-kept (h .lent) (beside .as-long)
 
       now-whole : whole n m′ first ≡ set w (2 * port + 1) free
       now-whole = ap (whole n m′) (sym (first-stays n m m′ first r port free (h .lent) lent′ (here .low) stored)) ∙ stored
@@ -99,7 +99,7 @@ module _ {m₀ : List ℕ} {n first stop from free₀ : ℕ} {m : List ℕ} {por
           let this : start (port / 2) ≡ port = omega arith in
           rw e record {
             lent = lent′;
-            as-long = long ∙ h .as-long;
+            aside = aside-on (h .aside) beside;
             way = way-from way′;
             numbers =
                 ap (freed (whole n m′ first) (port / 2)) rest

@@ -3,10 +3,10 @@
 ghost use mathlib.Core.Path.{_≡_};
 ghost use Prim.Native.Nat.{ℕ};
 ghost use mathlib.Core.List.{_∷_};
-ghost use lib.ListN.{length};
 ghost use Rattle.plan.specs.Plan.{Plan, cells, labels};
 ghost use Rattle.memory.specs.Held.{HeldIn};
 ghost use Rattle.memory.specs.Memory.{whole};
+ghost use Rattle.memory.specs.Model.{Aside};
 ghost use Rattle.blocks.specs.Blocks.{BlockIn, HasBlock, Alone, Leaves, freed, first-free};
 use kinds::Cell;
 use memory::Held;
@@ -38,7 +38,7 @@ pub fn block_cells(text: &[u8], memory: &[u32], held: Held, block: Cell) -> u32
 pub fn free_block(memory: &mut [u32], outer: Cell, first: Port, free: Cell, block: Cell) -> Cell
     requires { ⌜ Leaves (outer .0) (now memory) (first .0) (block .0) ⌝ }
     ensures frees { λ r. ⌜ ((b : Plan ℕ) → Alone (outer .0) (whole (outer .0) (now (memory .entry)) (first .0)) (block .0) b → (whole (outer .0) (now (memory .exit)) (first .0) ≡ freed (whole (outer .0) (now (memory .entry)) (first .0)) (free .0) (block .0 ∷ labels b)) × (r .0 ≡ first-free (free .0) (block .0 ∷ labels b))) ⌝ }
-    ensures as_long { λ r. ⌜ length (now (memory .exit)) ≡ length (now (memory .entry)) ⌝ }
+    ensures aside { λ r. ⌜ Aside (outer .0) (now (memory .entry)) (now (memory .exit)) ⌝ }
 {
     let end = Port::close(block);
     let mut at = Port::start(block);

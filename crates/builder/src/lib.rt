@@ -2,10 +2,11 @@
 // chain on to it, and does on the model of specs/Model.antt exactly what the step of that name there does.
 ghost use mathlib.Core.Path.{_≡_};
 ghost use Prim.Native.Nat.{_+_, _*_, _<_};
-ghost use lib.ListN.{length, set};
+ghost use lib.ListN.{set};
 ghost use Rattle.memory.specs.Memory.{close};
 ghost use Rattle.memory.specs.Model.{
   Lent,
+  Aside,
   Ready,
   Stepped,
   Fresh,
@@ -32,7 +33,7 @@ use memory::set_link;
 fn set_number(memory: &mut [u32], b: Build, number: usize, value: u32)
     requires { ⌜ Lent (b .outer .0) (now memory) × (number < 4 * b .outer .0) ⌝ }
     ensures stored { λ r. ⌜ model (now (memory .exit)) b .numbers ≡ set (model (now (memory .entry)) b .numbers) number value ⌝ }
-    ensures as_long { λ r. ⌜ length (now (memory .exit)) ≡ length (now (memory .entry)) ⌝ }
+    ensures aside { λ r. ⌜ Aside (b .outer .0) (now (memory .entry)) (now (memory .exit)) ⌝ }
 {
     memory[number] = value;
 }
@@ -55,7 +56,7 @@ fn begin_cell(memory: &mut [u32], b: Build, kind: u32) -> Cell
 fn set_place(memory: &mut [u32], b: Build, token: Token)
     requires { ⌜ Lent (b .outer .0) (now memory) × (b .free .0 < b .outer .0) ⌝ }
     ensures stored { λ r. ⌜ model (now (memory .exit)) b .numbers ≡ set (set (model (now (memory .entry)) b .numbers) (2 * close (b .free .0)) (token .at .0)) (2 * close (b .free .0) + 1) (token .len) ⌝ }
-    ensures as_long { λ r. ⌜ length (now (memory .exit)) ≡ length (now (memory .entry)) ⌝ }
+    ensures aside { λ r. ⌜ Aside (b .outer .0) (now (memory .entry)) (now (memory .exit)) ⌝ }
 {
     let free = b.free;
     let at = token.at;
@@ -88,7 +89,7 @@ fn append(memory: &mut [u32], b: Build, opened: Cell, next: Cell) -> Build
 pub fn fresh(memory: &mut [u32], outer: Cell) -> Build
     requires { ⌜ Lent (outer .0) (now memory) ⌝ }
     ensures all_free { λ r. ⌜ Fresh outer (now (memory .exit)) r ⌝ }
-    ensures as_long { λ r. ⌜ length (now (memory .exit)) ≡ length (now (memory .entry)) ⌝ }
+    ensures aside { λ r. ⌜ Aside (outer .0) (now (memory .entry)) (now (memory .exit)) ⌝ }
 {
     let b = Build {
         outer,

@@ -10,13 +10,13 @@ use Rattle.kinds.specs.declared.Cell.{Cell}
 use Rattle.plan.specs.Plan.{Plan, labels}
 use Rattle.plan.proofs.Plans.{length-labels}
 use Rattle.memory.specs.Memory.{start, close, link, whole, block-kind, Shared}
-use Rattle.memory.specs.Model.{Lent, Ready, Stepped, model}
+use Rattle.memory.specs.Model.{Aside, Lent, Ready, Stepped, model}
 use Rattle.memory.specs.declared.Build.{Build}
 use Rattle.memory.specs.declared.Held.{Held}
 use Rattle.memory.specs.declared.Port.{Port}
 use Rattle.memory.proofs.Lists.{below-split}
 use Rattle.memory.proofs.Steps.{building-ready, still-lent}
-use Rattle.memory.proofs.Whole.{lent-kept, set-whole}
+use Rattle.memory.proofs.Whole.{aside-on, aside-same, aside-set, lent-kept, set-whole}
 use Rattle.copier.specs.Copying.{Copies, CopyHeld, LikeReady, like}
 use Rattle.copier.proofs.Ahead.{steps}
 use Rattle.copier.proofs.Going.{Going, Started, Turn, beside, going-end, in-below, turn, turn-link}
@@ -89,7 +89,7 @@ module _ {text m : List ℕ} {h : Held} {c : ℕ} {m₀ : List ℕ} {b₀ : Buil
 pub record Walk (text m₀ : List ℕ) (outer copy : Cell) (b₀ : Build) (stop port₀ : ℕ) (m : List ℕ) (b : Build) (port : ℕ) : Type 0 where
   pub lent : Lent (outer .0) m
   pub same : b .outer ≡ outer
-  pub as-long : length m ≡ length m₀
+  pub aside : Aside (outer .0) m₀ m
   pub plan : Plan ℕ
   pub contents : Plan ℕ
   pub first : Going text (outer .0) (model m₀ b₀ .numbers) (copy .0) stop plan contents (model m₀ b₀) port₀
@@ -143,7 +143,7 @@ module _ {text m₀ : List ℕ} {outer copy : Cell} {b₀ : Build} {stop port₀
           record {
             lent = still-lent p (o .lent);
             same = outer-same;
-            as-long = p .as-long ∙ o .as-long;
+            aside = aside-on (o .aside) (subst (λ c. Aside (c .0) m m′) (o .same) (p .aside));
             plan = o .plan;
             contents = o .contents;
             first = o .first;
@@ -159,7 +159,7 @@ walk-first {m = m} {h = h} {t = t} {b = b} p k =
     record {
       lent = lent-kept (p .lent) (ap length (p .stored) ∙ length-set m (2 * start (h .free .0)) block-kind);
       same = p .outer;
-      as-long = refl;
+      aside = aside-same;
       plan = t;
       contents = b;
       first = prepared-going p k;
@@ -177,5 +177,6 @@ module _ {text m : List ℕ} {h : Held} {c : ℕ} {m₀ : List ℕ} {b₀ : Buil
       (subst (λ (z : Cell). CopyHeld text (h .outer .0) (set (whole (z .0) m₁ (b₁ .first .0)) (2 * b₁ .tail .0 + 1) (close (h .free .0))) (b₁ .free .0) (h .free .0) t b)
       (o .same) (going-end (o .each t b (prepared-going p k)) ended (prepared-started p k)))
 
-  pub walk-long : length m₁ ≡ length m
-  walk-long = o .as-long ∙ ap length (p .stored) ∙ length-set m (2 * start (h .free .0)) block-kind
+  pub walk-aside : h .free .0 < h .outer .0 → Aside (h .outer .0) m m₁
+  walk-aside low =
+      aside-on (rw (p .stored) (aside-set (h .outer .0) m (2 * start (h .free .0)) block-kind (omega arith))) (o .aside)

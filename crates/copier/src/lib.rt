@@ -2,9 +2,8 @@
 // stand in one chain, and for each of them the builder puts its like. No recursion, and nothing is kept beside the copy.
 ghost use mathlib.Core.Path.{_≡_};
 ghost use Prim.Native.Nat.{ℕ};
-ghost use lib.ListN.{length};
 ghost use Rattle.plan.specs.Plan.{Plan};
-ghost use Rattle.memory.specs.Model.{Stepped, model};
+ghost use Rattle.memory.specs.Model.{Aside, Stepped, model};
 ghost use Rattle.copier.specs.Copying.{Copies, Copyable, CopyMade, LikeReady, like};
 use builder::close_block;
 use builder::open_block;
@@ -55,7 +54,7 @@ pub fn copy_block(text: &[u8], memory: &mut [u32], held: Held, block: Cell) -> C
     requires { ⌜ Copyable (now text) (now memory) held (block .0) ⌝ }
     ensures made { λ r. ⌜ ((t b : Plan ℕ) → Copies (now (text .entry)) (now (memory .entry)) held (block .0) t b → CopyMade (now (text .entry)) (now (memory .exit)) r t b) ⌝ }
     ensures same_cells { λ r. ⌜ r .held .outer ≡ held .outer ⌝ }
-    ensures as_long { λ r. ⌜ length (now (memory .exit)) ≡ length (now (memory .entry)) ⌝ }
+    ensures aside { λ r. ⌜ Aside (held .outer .0) (now (memory .entry)) (now (memory .exit)) ⌝ }
 {
     let outer = held.outer;
     let first = held.first;

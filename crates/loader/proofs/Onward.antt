@@ -21,6 +21,7 @@ use Rattle.text.proofs.ClassNumbers.{by-number, operator-number, other-number}
 use Rattle.memory.specs.Held.{HeldIn}
 use Rattle.memory.specs.Memory.{operator-kind, whole}
 use Rattle.memory.specs.Model.{
+  Aside,
   Finished,
   Fresh,
   Lent,
@@ -38,6 +39,7 @@ use Rattle.memory.specs.declared.Held.{Held}
 use Rattle.memory.proofs.Beginning.{fresh-building}
 use Rattle.loader.proofs.Placing.{Placed, never-bad, place-blank, place-close, place-end, place-open, place-operator, place-start, place-token, room, some-token}
 use Rattle.memory.proofs.Steps.{building-ready, still-lent}
+use Rattle.memory.proofs.Whole.{aside-on, aside-same}
 
 pub record Onward (text m₀ : List ℕ) (b₀ : Build) (m : List ℕ) (b : Build) (at : ℕ) : Type 0 where
   pub plan : Plan ℕ
@@ -45,7 +47,7 @@ pub record Onward (text m₀ : List ℕ) (b₀ : Build) (m : List ℕ) (b : Buil
   pub short : length text ≤ textLimit
   pub lent : Lent (b .outer .0) m
   pub same : b .outer ≡ b₀ .outer
-  pub as-long : length m ≡ length m₀
+  pub aside : Aside (b₀ .outer .0) m₀ m
   pub placed : Placed text (b .outer .0) at (model m b)
 
 -- a token's end lies within the text, and within the token's limit
@@ -74,7 +76,7 @@ module _ {text m₀ : List ℕ} {b₀ : Build} {m : List ℕ} {b : Build} {at : 
         short = o .short;
         lent = subst (λ c. Lent (c .0) m′) (sym (p .outer)) (still-lent p (o .lent));
         same = p .outer ∙ o .same;
-        as-long = p .as-long ∙ o .as-long;
+        aside = aside-on (o .aside) (subst (λ c. Aside (c .0) m m′) (o .same) (p .aside));
         placed = subst (λ c. Placed text (c .0) at′ (model m′ b′)) (sym (p .outer)) (subst (Placed text (b .outer .0) at′) (sym (p .steps)) placed);
       }
 
@@ -156,7 +158,7 @@ module _ {text m₀ : List ℕ} {b₀ : Build} {m : List ℕ} {b : Build} {at : 
               short = o .short;
               lent = o .lent;
               same = o .same;
-              as-long = o .as-long;
+              aside = o .aside;
               placed = place-blank (o .accepted) (o .placed) inside-text c;
             }
 
@@ -174,7 +176,7 @@ onward-start text {p = p} f short accepted =
       short = short;
       lent = rw (f .outer) (f .lent);
       same = refl;
-      as-long = refl;
+      aside = aside-same;
       placed = rw (f .outer) (place-start (rw (f .outer) at (fresh-building f text)));
     }
 
@@ -184,3 +186,9 @@ pub onward-end : {text m₀ m m′ : List ℕ} {b₀ b : Build} {at : ℕ} {k : 
 onward-end o ended f p accepted =
     let held = place-end accepted (o .placed) ended in
     (held .0, held .1, rw (f .outer, f .free, f .ends) (held .2))
+
+-- from the first byte on, the numbers past the lent cells are as they were
+pub onward-aside : {text m₀ m m′ : List ℕ} {b₀ b : Build} {at : ℕ} {k : Held} {outer : Cell} → Onward text m₀ b₀ m b at → b₀ .outer ≡ outer
+    → Finished m b m′ k → Aside (outer .0) m₀ m′
+onward-aside {m₀ = m₀} {m = m} {m′ = m′} o e f =
+    aside-on (subst (λ c. Aside (c .0) m₀ m) e (o .aside)) (subst (λ c. Aside (c .0) m m′) (o .same ∙ e) (f .aside))

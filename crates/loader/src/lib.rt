@@ -9,7 +9,7 @@ ghost use Rattle.plan.specs.Plan.{Plan, bare};
 ghost use Rattle.plan.specs.Reading.{PLAN, read};
 ghost use Rattle.plan.proofs.Tokens.{Found};
 ghost use Rattle.memory.specs.Held.{HeldIn};
-ghost use Rattle.memory.specs.Model.{Lent};
+ghost use Rattle.memory.specs.Model.{Lent, Aside};
 use builder::close_block;
 use builder::finish;
 use builder::fresh;
@@ -39,7 +39,7 @@ pub fn build_plan(text: &[u8], memory: &mut [u32], outer: Cell) -> Held
     requires { ⌜ Lent (outer .0) (now memory) × (length (now text) ≤ textLimit) × ((p : Plan ℕ) × (read tokenLimit (outer .0) (now text) ≡ PLAN p)) ⌝ }
     ensures holds { λ r. ⌜ ((p : Plan ℕ) → read tokenLimit (outer .0) (now (text .entry)) ≡ PLAN p → (t : Plan ℕ) × (bare t ≡ bare p) × HeldIn (now (text .entry)) (now (memory .exit)) r t) ⌝ }
     ensures same_cells { λ r. ⌜ r .outer ≡ outer ⌝ }
-    ensures as_long { λ r. ⌜ length (now (memory .exit)) ≡ length (now (memory .entry)) ⌝ }
+    ensures aside { λ r. ⌜ Aside (outer .0) (now (memory .entry)) (now (memory .exit)) ⌝ }
 {
     let mut build = fresh(memory, outer);
     let mut at = 0;

@@ -15,7 +15,7 @@ use Rattle.memory.proofs.Whole.{lent-kept}
 
 -- a step leaves the memory as long as it was
 pub still-lent : {m : List ℕ} {b : Build} {m′ : List ℕ} {b′ : Build} {s : Model} {n : ℕ} → Stepped m b m′ b′ s → Lent n m → Lent n m′
-still-lent p lent = lent-kept lent (p .as-long)
+still-lent p lent = lent-kept lent (p .aside .as-long)
 
 pub opened-lent : {text : List ℕ} {n : ℕ} {w : List ℕ} {root : ℕ} {others : List ℕ} {tail opened free c : ℕ} {before here : Plan ℕ} {out : Around}
     → Building text n w root others tail opened free (inside c before out) here → opened < n

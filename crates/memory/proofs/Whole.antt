@@ -4,13 +4,23 @@ use Prim.Native.Nat.{ℕ, _+_, _*_, _≤_, _<_}
 use mathlib.Core.Path.{_≡_, refl, ap, sym, _∙_}
 use mathlib.Core.List.{List, [], _∷_, _++_, append-assoc}
 use native.Mathlib.Omega.{arith}
-use lib.ListN.{length, getD, take, set, length-append, List·getD-append}
-use lib.Seq.{getD-append-add, getD-take, length-take-le, set-append-left, set-at, take-set-lt}
+use lib.ListN.{length, getD, take, set, length-append, length-set, List·getD-append}
+use lib.Seq.{drop-set-lt, getD-append-add, getD-take, length-take-le, set-append-left, set-at, take-set-lt}
 use Rattle.memory.specs.Memory.{start, link, whole, block-kind}
-use Rattle.memory.specs.Model.{Lent}
+use Rattle.memory.specs.Model.{Lent, Aside}
 
 pub lent-kept : {n : ℕ} {m m′ : List ℕ} → Lent n m → length m′ ≡ length m → Lent n m′
 lent-kept lent e = record { room = let had = lent .room in omega arith; few = lent .few }
+
+-- what changes lent cells alone leaves the rest as it was, one change after the other
+pub aside-same : {n : ℕ} {m : List ℕ} → Aside n m m
+aside-same = record { as-long = refl; rest = refl }
+
+pub aside-on : {n : ℕ} {m m′ m″ : List ℕ} → Aside n m m′ → Aside n m′ m″ → Aside n m m″
+aside-on p q = record { as-long = q .as-long ∙ p .as-long; rest = q .rest ∙ p .rest }
+
+pub aside-set : (n : ℕ) (m : List ℕ) (i a : ℕ) → i < 4 * n → Aside n m (set m i a)
+aside-set n m i a h = record { as-long = length-set m i a; rest = drop-set-lt (4 * n) m i a h }
 
 module _ (n : ℕ) (m : List ℕ) (first : ℕ) (lent : Lent n m) where
   front : length (take (4 * n) m) ≡ 4 * n

@@ -3,7 +3,7 @@
 use Prim.Native.Nat.{ℕ, _+_, _*_, _≤_, _<_}
 use mathlib.Core.Path.{_≡_}
 use mathlib.Core.List.{List}
-use lib.ListN.{length, set}
+use lib.ListN.{length, set, drop}
 use Rattle.kinds.specs.Limits.{cellLimit}
 use Rattle.kinds.specs.declared.Cell.{Cell}
 use Rattle.plan.specs.Plan.{Plan}
@@ -16,6 +16,11 @@ use Rattle.memory.specs.declared.Held.{Held}
 pub record Lent (n : ℕ) (m : List ℕ) : Type 0 where
   pub room : 4 * n ≤ length m
   pub few : n ≤ cellLimit
+
+-- past the n lent cells the memory is as it was
+pub record Aside (n : ℕ) (m m′ : List ℕ) : Type 0 where
+  pub as-long : length m′ ≡ length m
+  pub rest : drop (4 * n) m′ ≡ drop (4 * n) m
 
 pub record Model : Type 0 where
   pub numbers : List ℕ
@@ -37,11 +42,11 @@ pub record Ready (m : List ℕ) (b : Build) : Type 0 where
   pub tail : b .tail .0 ≤ start (b .outer .0)
   pub opened : b .opened .0 ≤ b .outer .0
 
--- one step: what the model is after it, in a memory that stays as long, with the same cells
+-- one step: what the model is after it, with the same cells, in a memory that is as it was past them
 pub record Stepped (m : List ℕ) (b : Build) (m′ : List ℕ) (b′ : Build) (s : Model) : Type 0 where
   pub steps : model m′ b′ ≡ s
   pub outer : b′ .outer ≡ b .outer
-  pub as-long : length m′ ≡ length m
+  pub aside : Aside (b .outer .0) m m′
 
 -- all cells are free, in order, and nothing is read yet
 pub record Fresh (bound : Cell) (m : List ℕ) (b : Build) : Type 0 where
@@ -65,7 +70,7 @@ with-cell s written opened next =
 pub record Begun (m m′ : List ℕ) (b : Build) (kind next : ℕ) : Type 0 where
   pub behind : next ≡ next-free (model m b)
   pub begins : model m′ b .numbers ≡ set (model m b .numbers) (2 * start (b .free .0)) kind
-  pub as-long : length m′ ≡ length m
+  pub aside : Aside (b .outer .0) m m′
 
 -- an operator, by its kind
 abbrev pub with-item : Model → (kind : ℕ) → Model
@@ -99,4 +104,4 @@ pub record Finished (m : List ℕ) (b : Build) (m′ : List ℕ) (h : Held) : Ty
   pub ends : whole (b .outer .0) m′ (h .first .0) ≡ with-end (b .outer .0) (model m b)
   pub outer : h .outer ≡ b .outer
   pub free : h .free ≡ b .free
-  pub as-long : length m′ ≡ length m
+  pub aside : Aside (b .outer .0) m m′

@@ -2,11 +2,11 @@
 // link goes through a `Port`, every cell's number through a `Cell` and every place in the text through a `Place`.
 ghost use mathlib.Core.Path.{_≡_};
 ghost use Prim.Native.Nat.{_+_, _*_, _<_, _≤_};
-ghost use lib.ListN.{length, set};
+ghost use lib.ListN.{set};
 ghost use Rattle.kinds.specs.Limits.{cellLimit};
 ghost use Rattle.plan.specs.Services.{cleared};
 ghost use Rattle.memory.specs.Memory.{start, close, link, whole};
-ghost use Rattle.memory.specs.Model.{Lent};
+ghost use Rattle.memory.specs.Model.{Lent, Aside};
 use kinds::Cell;
 
 mod print;
@@ -82,7 +82,7 @@ pub fn link_of(memory: &[u32], outer: Cell, first: Port, port: Port) -> Port
 pub fn set_link(memory: &mut [u32], outer: Cell, first: Port, port: Port, to: Port) -> Port
     requires { ⌜ Lent (outer .0) (now memory) × (port .0 ≤ start (outer .0)) ⌝ }
     ensures linked { λ r. ⌜ whole (outer .0) (now (memory .exit)) (r .0) ≡ set (whole (outer .0) (now (memory .entry)) (first .0)) (2 * port .0 + 1) (to .0) ⌝ }
-    ensures as_long { λ r. ⌜ length (now (memory .exit)) ≡ length (now (memory .entry)) ⌝ }
+    ensures aside { λ r. ⌜ Aside (outer .0) (now (memory .entry)) (now (memory .exit)) ⌝ }
 {
     if port.0 == 2 * outer.0 {
         return to;

@@ -48,7 +48,7 @@ same-length c = search needs
 returns : tie.Need-returns Inv-loop μ-loop
 returns c =
     let l = c .before .before .before in
-    (drop-end (l .loop .inv) (c .if1 .left) _ (l .before .before .close .ensures) (l .before .start .ensures), search needs)
+    (drop-end (l .loop .inv) (c .if1 .left) _ (l .before .before .close .ensures) (l .before .start .ensures), l .loop .inv .aside)
 
 pub free-block-spec : {M : Type 1} → statement M
 free-block-spec =

@@ -14,7 +14,7 @@ same-length : tie.Need-same-length
 same-length c = search needs
 
 returns : tie.Need-returns
-returns c = record { steps = cc; outer = refl; as-long = search needs }
+returns c = record { steps = cc; outer = refl; aside = search needs }
 
 pub append-spec : {M : Type 1} → statement M
 append-spec = tie.close (tie.spec start-requires set-link-requires same-length returns)

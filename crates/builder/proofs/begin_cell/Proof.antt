@@ -22,7 +22,7 @@ same-length : tie.Need-same-length
 same-length c = search needs
 
 returns : tie.Need-returns
-returns c = record { behind = cc; begins = cc; as-long = search needs }
+returns c = record { behind = cc; begins = cc; aside = search needs }
 
 pub begin-cell-spec : {M : Type 1} → statement M
 begin-cell-spec =

@@ -17,7 +17,7 @@ same-length : tie.Need-same-length
 same-length c = search needs
 
 returns : tie.Need-returns
-returns c = record { steps = cc; outer = refl; as-long = search needs }
+returns c = record { steps = cc; outer = refl; aside = search needs }
 
 pub close-block-spec : {M : Type 1} → statement M
 close-block-spec =

@@ -14,7 +14,7 @@ same-length : tie.Need-same-length
 same-length c = search needs
 
 returns : tie.Need-returns
-returns c = record { ends = cc; outer = refl; free = refl; as-long = search needs }
+returns c = record { ends = cc; outer = refl; free = refl; aside = search needs }
 
 pub finish-spec : {M : Type 1} → statement M
 finish-spec = tie.close (tie.spec close-requires set-link-requires same-length returns)

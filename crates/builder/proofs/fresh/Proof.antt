@@ -1,18 +1,18 @@
--- `fresh`: the cells passed so far link each to the next, in a memory that stays as long.
+-- `fresh`: the cells passed so far link each to the next, in a memory that is as it was past the cells.
 use Prim.Native.Nat.{ℕ, _+_, _-_, _<_, _≤_}
 use mathlib.Core.Path.{_≡_, refl}
 use native.Mathlib.Omega.{arith}
-use lib.ListN.{length}
 use Rattle.memory.specs.Memory.{start, link, whole}
+use Rattle.memory.specs.Model.{Aside}
 use Rattle.memory.proofs.Beginning.{one-more}
-use Rattle.memory.proofs.Whole.{lent-kept}
+use Rattle.memory.proofs.Whole.{aside-on, aside-same, lent-kept}
 use borrow.Author.Needs.{needs}
 use Rattle.builder.proofs.fresh.Statement.{statement}
 use Rattle.builder.proofs.fresh.Tie as tie
 
 abbrev Inv-loop : tie.InvT-loop
 Inv-loop memory₀ outer b cell₀ memory cell =
-    (length memory ≡ length memory₀) × (cell ≤ outer .0)
+    Aside (outer .0) memory₀ memory × (cell ≤ outer .0)
     × ((i : ℕ) → i < cell → link (whole (outer .0) memory (b .first .0)) (start i) ≡ i + 1)
 
 abbrev μ-loop : tie.MeasureT-loop
@@ -25,7 +25,7 @@ start-requires : tie.Need-start-requires Inv-loop μ-loop
 start-requires c κs = search needs
 
 loop-holds : tie.Need-loop-holds Inv-loop μ-loop
-loop-holds c = (refl, omega arith, λ i h. absurd (omega arith))
+loop-holds c = (aside-same, omega arith, λ i h. absurd (omega arith))
 
 start-requires-2 : tie.Need-start-requires-2 Inv-loop μ-loop
 start-requires-2 c κs = search needs
@@ -54,9 +54,9 @@ loop-less c = search needs
 loop-again : tie.Need-loop-again Inv-loop μ-loop
 loop-again c =
     let at = c .before .before .before .before .before .before .before .before in (
+      aside-on (at .loop .inv .0) (c .before .before .set-number .ensures .1),
       omega arith,
-      omega arith,
-      one-more _ _ _ _ _ _ (lent-kept (at .before .before .before .before .pre) (at .loop .inv .0)) (omega arith)
+      one-more _ _ _ _ _ _ (lent-kept (at .before .before .before .before .pre) (at .loop .inv .0 .as-long)) (omega arith)
           (c .before .before .before .before .before .start2 .ensures) (c .before .before .set-number .ensures .0) (at .loop .inv .2),
     )
 
@@ -67,7 +67,7 @@ returns : tie.Need-returns Inv-loop μ-loop
 returns c =
     let inv = c .before .before .loop .inv in (
       record {
-        lent = lent-kept (c .before .before .before .before .before .before .pre) (inv .0);
+        lent = lent-kept (c .before .before .before .before .before .before .pre) (inv .0 .as-long);
         outer = refl;
         tail = c .before .before .before .start .ensures;
         opened = refl;

@@ -1,5 +1,5 @@
 -- `put_token`: the kind is stored, then the place and the length, then the link; as in the model.
-use native.Mathlib.Omega.{arith}
+use Rattle.memory.proofs.Whole.{aside-on}
 use borrow.Author.Needs.{needs}
 use Rattle.builder.proofs.put_token.Statement.{statement}
 use Rattle.builder.proofs.put_token.Tie as tie
@@ -17,7 +17,7 @@ same-length : tie.Need-same-length
 same-length c = search needs
 
 returns : tie.Need-returns
-returns c = record { steps = cc; outer = search needs; as-long = omega arith }
+returns c = record { steps = cc; outer = search needs; aside = search (needs, aside-on) }
 
 pub put-token-spec : {M : Type 1} → statement M
 put-token-spec =

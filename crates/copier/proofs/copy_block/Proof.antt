@@ -6,9 +6,9 @@ use native.Mathlib.Omega.{arith}
 use lib.ListN.{set, length-set}
 use Rattle.memory.specs.Model.{model}
 use Rattle.memory.proofs.Steps.{still-lent}
-use Rattle.memory.proofs.Whole.{lent-kept}
+use Rattle.memory.proofs.Whole.{aside-on, lent-kept}
 use Rattle.copier.proofs.Ahead.{steps}
-use Rattle.copier.proofs.Walk.{Prepared, Walk, begun, block-low, copy-low, port-low, prepared, tail-low, walk-end, walk-first, walk-less, walk-like, walk-long, walk-on}
+use Rattle.copier.proofs.Walk.{Prepared, Walk, begun, block-low, copy-low, port-low, prepared, tail-low, walk-aside, walk-end, walk-first, walk-less, walk-like, walk-on}
 use Rattle.copier.proofs.copy_block.Statement.{statement}
 use Rattle.copier.proofs.copy_block.Tie as tie
 
@@ -122,7 +122,8 @@ set-link-requires c κs =
 same-length : tie.Need-same-length Inv-loop μ-loop
 same-length c =
     let p = c .before .before in
-    let a = p .before .before .before .before .before .before .before .before .before in p .set-link .ensures .1 ∙ walk-long (ready (a .before)) (a .loop .inv)
+    let a = p .before .before .before .before .before .before .before .before .before in
+    p .set-link .ensures .1 .as-long ∙ walk-aside (ready (a .before)) (a .loop .inv) (copy-low (entry (a .before) .pre .copies)) .as-long
 
 returns : tie.Need-returns Inv-loop μ-loop
 returns c =
@@ -133,7 +134,7 @@ returns c =
     let r = ready (a .before) in
     let o = a .loop .inv in (
       walk-end r o (e .if1 .left) _ _ _ (p .set-link .ensures .0) (q .close2 .ensures),
-      (refl, p .set-link .ensures .1 ∙ walk-long r o),
+      (refl, aside-on (walk-aside r o (copy-low (entry (a .before) .pre .copies))) (p .set-link .ensures .1)),
     )
 
 pub copy-block-spec : {M : Type 1} → statement M

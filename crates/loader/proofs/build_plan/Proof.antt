@@ -6,6 +6,7 @@ use native.Mathlib.Omega.{arith}
 use borrow.Author.Needs.{needs}
 use lib.ListN.{length}
 use Rattle.kinds.specs.declared.Place.{Place}
+use Rattle.memory.proofs.Whole.{aside-on}
 use Rattle.loader.proofs.Onward.{
   Onward,
   TokenEnds,
@@ -14,6 +15,7 @@ use Rattle.loader.proofs.Onward.{
   block-ready,
   close-next,
   close-ready,
+  onward-aside,
   onward-end,
   onward-start,
   operator-next,
@@ -198,7 +200,10 @@ returns c =
     let r = l .before .before .before in
     let outer = o .same ∙ r .fresh .ensures .0 .outer in (
       λ p h. onward-end o (a .loop-test .left) (f .finish .ensures) p (rw outer h),
-      (f .finish .ensures .outer ∙ outer, f .finish .ensures .as-long ∙ o .as-long ∙ r .fresh .ensures .1),
+      (
+        f .finish .ensures .outer ∙ outer,
+        aside-on (r .fresh .ensures .1) (onward-aside o (r .fresh .ensures .0 .outer) (f .finish .ensures)),
+      ),
     )
 
 pub build-plan-spec : {M : Type 1} → statement M
