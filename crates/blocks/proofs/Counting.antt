@@ -7,11 +7,11 @@ use native.Mathlib.Omega.{arith}
 use lib.ListN.{length}
 use Rattle.plan.specs.Plan.{Plan, cells}
 use Rattle.plan.proofs.Plans.{length-labels}
-use Rattle.memory.specs.Held.{HeldIn}
+use Rattle.memory.specs.Held.{BlockIn, HeldIn}
 use Rattle.memory.specs.Memory.{start, close, link, ports, whole}
 use Rattle.memory.specs.Model.{Lent}
 use Rattle.memory.specs.declared.Held.{Held}
-use Rattle.blocks.specs.Blocks.{BlockIn, HasBlock, Alone}
+use Rattle.blocks.specs.Blocks.{HasBlock, Alone}
 use Rattle.blocks.proofs.Inside.{block-alone}
 use Rattle.blocks.proofs.Starts.{starts, starts-even, starts-odd, length-starts, starts-ports, way-inside}
 use Rattle.blocks.proofs.Ways.{ahead, at-most, ahead-end, way-ahead, way-from, Way, Turn, turn}

@@ -1,21 +1,12 @@
 -- A block of a plan in the memory, and the cells that it has: what is counted before a copy and freed after a drop.
 use Prim.Native.Nat.{ℕ, _+_, _*_}
-use mathlib.Core.Path.{_≡_}
-use mathlib.Core.Logic.{_⊎_}
 use mathlib.Core.List.{List, [], _∷_, _++_}
 use lib.ListN.{set}
-use Rattle.plan.specs.Plan.{Plan, end, operator, token, block, labels}
-use Rattle.memory.specs.Held.{HeldIn}
+use Rattle.plan.specs.Plan.{Plan, labels}
+use Rattle.memory.specs.Held.{BlockIn, HeldIn}
 use Rattle.memory.specs.Memory.{start, close, whole, ports, Linked, Below, Distinct}
 use Rattle.memory.specs.Model.{Lent}
 use Rattle.memory.specs.declared.Held.{Held}
-
--- somewhere in the plan t, the block at the cell c has the contents b
-abbrev pub BlockIn : (c : ℕ) → (b t : Plan ℕ) → Type 0
-BlockIn c b end = ⊥
-BlockIn c b (operator d o p) = BlockIn c b p
-BlockIn c b (token d t p) = BlockIn c b p
-BlockIn c b (block d x p) = ((c ≡ d) × (b ≡ x)) ⊎ (BlockIn c b x ⊎ BlockIn c b p)
 
 -- the memory holds a plan with a block at the cell c
 pub record HasBlock (text m : List ℕ) (h : Held) (c : ℕ) : Type 0 where

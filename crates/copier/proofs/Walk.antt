@@ -17,10 +17,11 @@ use Rattle.memory.specs.declared.Port.{Port}
 use Rattle.memory.proofs.Lists.{below-split}
 use Rattle.memory.proofs.Steps.{building-ready, still-lent}
 use Rattle.memory.proofs.Whole.{aside-on, aside-same, aside-set, lent-kept, set-whole}
+use Rattle.memory.proofs.Within.{block-used}
 use Rattle.copier.specs.Copying.{Copies, CopyHeld, LikeReady, like}
 use Rattle.copier.proofs.Ahead.{steps}
 use Rattle.copier.proofs.Going.{Going, Started, Turn, beside, going-end, in-below, turn, turn-link}
-use Rattle.copier.proofs.Starting.{block-used, first-going, has-free, shared-started, started}
+use Rattle.copier.proofs.Starting.{first-going, has-free, shared-started, started}
 
 -- what the code has made before the loop: the first free cell is a block, nothing is built in it, and the walk through the
 -- contents of the block c goes from its first port up to its close

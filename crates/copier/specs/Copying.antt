@@ -3,23 +3,16 @@
 use Prim.Native.Nat.{ℕ, _+_, _%_, _≤_, _<_}
 use mathlib.Core.Path.{_≡_}
 use mathlib.Core.Bool.{cond}
-use mathlib.Core.Logic.{_≢_, _⊎_}
+use mathlib.Core.Logic.{_≢_}
 use mathlib.Core.List.{List, [], _∷_, _++_}
 use lib.Dec.{eqb}
-use Rattle.plan.specs.Plan.{Plan, end, operator, token, block, bare, cells, labels}
-use Rattle.memory.specs.Held.{HeldIn}
+use Rattle.plan.specs.Plan.{Plan, bare, cells, labels}
+use Rattle.memory.specs.Held.{BlockIn, HeldIn}
 use Rattle.memory.specs.Memory.{start, close, datum, link, whole, block-kind, ports, Linked, Says, Shared}
 use Rattle.memory.specs.Model.{Lent, Model, Ready, with-block, with-close, with-item, with-token}
 use Rattle.memory.specs.declared.Build.{Build}
 use Rattle.memory.specs.declared.Held.{Held}
 use Rattle.copier.specs.declared.Copied.{Copied}
-
--- in the plan, at any depth, stands a block at the cell c with the contents b
-abbrev pub BlockIn : (c : ℕ) → (b : Plan ℕ) → Plan ℕ → Type 0
-BlockIn c b end = ⊥
-BlockIn c b (operator d o p) = BlockIn c b p
-BlockIn c b (token d t p) = BlockIn c b p
-BlockIn c b (block d q p) = ((d ≡ c) × (q ≡ b)) ⊎ (BlockIn c b q ⊎ BlockIn c b p)
 
 -- the memory holds the plan t, in it stands a block at the cell c with the contents b, and a copy of it finds room
 pub record Copies (text m : List ℕ) (h : Held) (c : ℕ) (t b : Plan ℕ) : Type 0 where

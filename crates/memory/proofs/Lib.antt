@@ -13,3 +13,4 @@ pub mod Sharing
 pub mod Steps
 pub mod Walking
 pub mod Whole
+pub mod Within

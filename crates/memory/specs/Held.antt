@@ -1,10 +1,20 @@
--- What is kept beside the numbers of a plan that is whole: the cell that is not lent, the first port, the first free cell.
+-- What is kept beside the numbers of a plan that is whole: the cell that is not lent, the first port, the first free cell. And
+-- where in such a plan a block stands.
 use Prim.Native.Nat.{ℕ}
+use mathlib.Core.Path.{_≡_}
+use mathlib.Core.Logic.{_⊎_}
 use mathlib.Core.List.{List}
-use Rattle.plan.specs.Plan.{Plan}
+use Rattle.plan.specs.Plan.{Plan, end, operator, token, block}
 use Rattle.memory.specs.Memory.{Holds, whole}
 use Rattle.memory.specs.declared.Held.{Held}
 
 -- the memory m, with what is kept beside it, holds the plan t
 abbrev pub HeldIn : (text m : List ℕ) → Held → Plan ℕ → Type 0
 HeldIn text m h t = Holds text (h .outer .0) (whole (h .outer .0) m (h .first .0)) (h .free .0) t
+
+-- somewhere in the plan t, at any depth, the block at the cell c has the contents b
+abbrev pub BlockIn : (c : ℕ) → (b t : Plan ℕ) → Type 0
+BlockIn c b end = ⊥
+BlockIn c b (operator d o p) = BlockIn c b p
+BlockIn c b (token d t p) = BlockIn c b p
+BlockIn c b (block d x p) = ((c ≡ d) × (b ≡ x)) ⊎ (BlockIn c b x ⊎ BlockIn c b p)
