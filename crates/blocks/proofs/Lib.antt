@@ -2,5 +2,6 @@ pub mod Counting
 pub mod Dropping
 pub mod Freed
 pub mod Inside
+pub mod Last
 pub mod Starts
 pub mod Ways

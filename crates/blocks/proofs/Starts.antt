@@ -71,7 +71,7 @@ starts-block c b = starts-start c (ports b) ∙ ap (c ∷_) (starts-ports b)
 
 -- the ways through a block
 
-below-ports : (n : ℕ) (t : Plan ℕ) → Below n (labels t) → Below (start n) (ports t)
+pub below-ports : (n : ℕ) (t : Plan ℕ) → Below n (labels t) → Below (start n) (ports t)
 unfolding ports labels
 below-ports n end h = tt
 below-ports n (operator c o p) h = (omega arith, below-ports n p (h .1))

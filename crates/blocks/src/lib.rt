@@ -5,7 +5,7 @@ ghost use Prim.Native.Nat.{ℕ};
 ghost use mathlib.Core.List.{_∷_};
 ghost use Rattle.plan.specs.Plan.{Plan, cells, labels};
 ghost use Rattle.memory.specs.Held.{BlockIn, HeldIn};
-ghost use Rattle.memory.specs.Memory.{whole};
+ghost use Rattle.memory.specs.Memory.{start, ports, last-of, whole};
 ghost use Rattle.memory.specs.Model.{Aside};
 ghost use Rattle.blocks.specs.Blocks.{HasBlock, Alone, Leaves, freed, first-free};
 use kinds::Cell;
@@ -52,4 +52,19 @@ pub fn free_block(memory: &mut [u32], outer: Cell, first: Port, free: Cell, bloc
         at = next;
     }
     top
+}
+
+// The last port inside a block: its own start, where it is empty.
+pub fn last_port(memory: &[u32], outer: Cell, first: Port, block: Cell) -> Port
+    requires { ⌜ Leaves (outer .0) (now memory) (first .0) (block .0) ⌝ }
+    ensures { λ r. ⌜ ((b : Plan ℕ) → Alone (outer .0) (whole (outer .0) (now (memory .entry)) (first .0)) (block .0) b → r .0 ≡ last-of (start (block .0)) (ports b)) ⌝ }
+{
+    let end = Port::close(block);
+    let mut port = Port::start(block);
+    let mut next = link_of(memory, outer, first, port);
+    while next.0 != end.0 {
+        port = next;
+        next = link_of(memory, outer, first, port);
+    }
+    port
 }
