@@ -1,4 +1,5 @@
 -- `free_block`: the loop's invariant is `Dropping`. The measure is how many ports are ahead.
+use mathlib.Core.Path.{refl}
 use borrow.Author.Needs.{needs}
 use lib.ListN.{length}
 use Rattle.memory.specs.Memory.{whole}
@@ -34,13 +35,22 @@ loop-less : tie.Need-loop-less Inv-loop μ-loop
 loop-less c = search (needs, start-less)
 
 loop-again : tie.Need-loop-again Inv-loop μ-loop
-loop-again c = search (needs, drop-start)
+loop-again c =
+    let s = c .before .before .before in
+    let e = s .before .before in
+    let n = e .before .before in
+    let t = n .before .before in
+    drop-start (t .before .before .before .loop .inv) (t .if1 .taken) _ (n .link-of .ensures) _ _ (s .set-link .ensures .0) (s .set-link .ensures .1)
+    (e .if2 .taken) _ refl
 
 loop-less-2 : tie.Need-loop-less-2 Inv-loop μ-loop
 loop-less-2 c = search (needs, close-less)
 
 loop-again-2 : tie.Need-loop-again-2 Inv-loop μ-loop
-loop-again-2 c = search (needs, drop-close)
+loop-again-2 c =
+    let n = c .before .before in
+    let t = n .before .before in
+    drop-close (t .before .before .before .loop .inv) (t .if1 .taken) _ (n .link-of .ensures) (c .if2 .left)
 
 same-length : tie.Need-same-length Inv-loop μ-loop
 same-length c = search needs
