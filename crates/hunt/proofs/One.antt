@@ -1,0 +1,103 @@
+-- The numbers tell the plan: two plans that are linked from the same port on and that the same cells say are one. An item
+-- begins with a start, which is an even port, and a sequence ends with a close, which is an odd one; so the links tell where
+-- a sequence ends, and the data which item each is.
+use Prim.Native.Nat.{ℕ, _<_}
+use mathlib.Core.Path.{_≡_, refl, ap, sym, _∙_}
+use mathlib.Core.List.{List, [], _∷_, _++_, append-assoc, append-cancel-right}
+use native.Mathlib.Omega.{arith}
+use Rattle.plan.specs.Plan.{Operator, op-a, op-b, op-c, op-d, Plan, end, operator, token, block, close-brace}
+use Rattle.memory.specs.Memory.{start, close, datum, link, operator-kind, ports, Linked, TokenAt, Says, Holds}
+use Rattle.memory.proofs.Lists.{linked-split}
+use Rattle.hunt.specs.Hunting.{SequenceAt}
+
+pub kind-low : (o : Operator) → operator-kind o < 4
+kind-low op-a = omega arith
+kind-low op-b = omega arith
+kind-low op-c = omega arith
+kind-low op-d = omega arith
+
+one-operator : (o o′ : Operator) → operator-kind o ≡ operator-kind o′ → o ≡ o′
+one-operator op-a op-a e = refl
+one-operator op-a op-b e = absurd (omega arith)
+one-operator op-a op-c e = absurd (omega arith)
+one-operator op-a op-d e = absurd (omega arith)
+one-operator op-b op-a e = absurd (omega arith)
+one-operator op-b op-b e = refl
+one-operator op-b op-c e = absurd (omega arith)
+one-operator op-b op-d e = absurd (omega arith)
+one-operator op-c op-a e = absurd (omega arith)
+one-operator op-c op-b e = absurd (omega arith)
+one-operator op-c op-c e = refl
+one-operator op-c op-d e = absurd (omega arith)
+one-operator op-d op-a e = absurd (omega arith)
+one-operator op-d op-b e = absurd (omega arith)
+one-operator op-d op-c e = absurd (omega arith)
+one-operator op-d op-d e = refl
+
+one-token : (text : List ℕ) (at at′ len len′ : ℕ) (t t′ : List ℕ) → at ≡ at′ → len ≡ len′ → TokenAt text at len t → TokenAt text at′ len′ t′
+    → t ≡ t′
+one-token text at at′ len len′ t t′ a l h h′ =
+    let both : t ++ close-brace ∷ [] ≡ t′ ++ close-brace ∷ [] = cc (h .1, h′ .1) in
+    append-cancel-right t t′ (close-brace ∷ []) both
+
+-- the ports from which the plans are linked are equal, and what is behind each plan may differ
+one-linked : (text w : List ℕ) (x x′ : ℕ) (q q′ : Plan ℕ) (y y′ : ℕ) (r r′ : List ℕ) → x ≡ x′
+    → Linked w (x ∷ (ports q ++ close y ∷ r)) → Linked w (x′ ∷ (ports q′ ++ close y′ ∷ r′)) → Says text w q → Says text w q′ → q ≡ q′
+unfolding ports
+one-linked text w x x′ end end y y′ r r′ e h h′ s s′ = refl
+one-linked text w x x′ end (operator c o p) y y′ r r′ e h h′ s s′ = absurd (omega (arith, ap (link w) e))
+one-linked text w x x′ end (token c t p) y y′ r r′ e h h′ s s′ = absurd (omega (arith, ap (link w) e))
+one-linked text w x x′ end (block c b p) y y′ r r′ e h h′ s s′ = absurd (omega (arith, ap (link w) e))
+one-linked text w x x′ (operator c o p) end y y′ r r′ e h h′ s s′ = absurd (omega (arith, ap (link w) e))
+one-linked text w x x′ (operator c o p) (operator c′ o′ p′) y y′ r r′ e h h′ s s′ =
+    let cell : c ≡ c′ = omega (arith, ap (link w) e) in
+    let same = one-operator o o′ (sym (s .0) ∙ ap (λ z. datum w (start z)) cell ∙ s′ .0) in
+    let rest = one-linked text w (start c) (start c′) p p′ y y′ r r′ (ap start cell) (h .1) (h′ .1) (s .1) (s′ .1) in
+    cc
+one-linked text w x x′ (operator c o p) (token c′ t′ p′) y y′ r r′ e h h′ s s′ =
+    let cell : c ≡ c′ = omega (arith, ap (link w) e) in
+    absurd (omega (arith, kind-low o, ap (λ z. datum w (start z)) cell))
+one-linked text w x x′ (operator c o p) (block c′ b′ p′) y y′ r r′ e h h′ s s′ =
+    let cell : c ≡ c′ = omega (arith, ap (link w) e) in
+    absurd (omega (arith, kind-low o, ap (λ z. datum w (start z)) cell))
+one-linked text w x x′ (token c t p) end y y′ r r′ e h h′ s s′ = absurd (omega (arith, ap (link w) e))
+one-linked text w x x′ (token c t p) (operator c′ o′ p′) y y′ r r′ e h h′ s s′ =
+    let cell : c ≡ c′ = omega (arith, ap (link w) e) in
+    absurd (omega (arith, kind-low o′, ap (λ z. datum w (start z)) cell))
+one-linked text w x x′ (token c t p) (token c′ t′ p′) y y′ r r′ e h h′ s s′ =
+    let cell : c ≡ c′ = omega (arith, ap (link w) e) in
+    let at = ap (λ z. datum w (close z)) cell in
+    let len = ap (λ z. link w (close z)) cell in
+    let same = one-token text _ _ _ _ t t′ at len (s .1) (s′ .1) in
+    let rest = one-linked text w (start c) (start c′) p p′ y y′ r r′ (ap start cell) (h .1) (h′ .1) (s .2) (s′ .2) in
+    cc
+one-linked text w x x′ (token c t p) (block c′ b′ p′) y y′ r r′ e h h′ s s′ =
+    let cell : c ≡ c′ = omega (arith, ap (link w) e) in
+    absurd (omega (arith, ap (λ z. datum w (start z)) cell))
+one-linked text w x x′ (block c b p) end y y′ r r′ e h h′ s s′ = absurd (omega (arith, ap (link w) e))
+one-linked text w x x′ (block c b p) (operator c′ o′ p′) y y′ r r′ e h h′ s s′ =
+    let cell : c ≡ c′ = omega (arith, ap (link w) e) in
+    absurd (omega (arith, kind-low o′, ap (λ z. datum w (start z)) cell))
+one-linked text w x x′ (block c b p) (token c′ t′ p′) y y′ r r′ e h h′ s s′ =
+    let cell : c ≡ c′ = omega (arith, ap (link w) e) in
+    absurd (omega (arith, ap (λ z. datum w (start z)) cell))
+one-linked text w x x′ (block c b p) (block c′ b′ p′) y y′ r r′ e h h′ s s′ =
+    let cell : c ≡ c′ = omega (arith, ap (link w) e) in
+    let k : Linked w (start c ∷ (ports b ++ close c ∷ (ports p ++ close y ∷ r))) = simp append-assoc at (h .1) in
+    let k′ : Linked w (start c′ ∷ (ports b′ ++ close c′ ∷ (ports p′ ++ close y′ ∷ r′))) = simp append-assoc at (h′ .1) in
+    let inside = one-linked text w (start c) (start c′) b b′ c c′ _ _ (ap start cell) k k′ (s .1) (s′ .1) in
+    let on = linked-split w (start c ∷ ports b) (close c) (ports p ++ close y ∷ r) k .1 in
+    let on′ = linked-split w (start c′ ∷ ports b′) (close c′) (ports p′ ++ close y′ ∷ r′) k′ .1 in
+    let rest = one-linked text w (close c) (close c′) p p′ y y′ r r′ (ap close cell) on on′ (s .2) (s′ .2) in
+    cc
+
+pub one-sequence : (text w : List ℕ) (x : ℕ) (q q′ : Plan ℕ) (y y′ : ℕ) (r r′ : List ℕ) → Linked w (x ∷ (ports q ++ close y ∷ r))
+    → Linked w (x ∷ (ports q′ ++ close y′ ∷ r′)) → Says text w q → Says text w q′ → q ≡ q′
+one-sequence text w x q q′ y y′ r r′ h h′ s s′ = one-linked text w x x q q′ y y′ r r′ refl h h′ s s′
+
+-- a plan that the numbers hold, and a sequence inside a cell
+pub one-held : {text : List ℕ} {n : ℕ} {w : List ℕ} {free : ℕ} {t t′ : Plan ℕ} → Holds text n w free t → Holds text n w free t′ → t ≡ t′
+one-held h h′ = one-sequence _ _ _ _ _ _ _ _ _ (h .chain) (h′ .chain) (h .says) (h′ .says)
+
+pub one-inside : {text : List ℕ} {n : ℕ} {w : List ℕ} {s : ℕ} {q q′ : Plan ℕ} → SequenceAt text n w s q → SequenceAt text n w s q′ → q ≡ q′
+one-inside h h′ = one-sequence _ _ _ _ _ _ _ _ _ (h .chain) (h′ .chain) (h .says) (h′ .says)
