@@ -1,0 +1,42 @@
+-- `opens`: the outermost start's datum is no number of the memory, every other is.
+use borrow.Author.Needs.{needs}
+use Rattle.hunt.proofs.Tests.{close-opens, outermost-opens, datum-opens}
+use Rattle.hunt.proofs.opens.Statement.{statement}
+use Rattle.hunt.proofs.opens.Tie as tie
+
+returns : tie.Need-returns
+returns c = search (needs, close-opens)
+
+mul-if2 : tie.Need-mul-if2
+mul-if2 c = search needs
+
+returns-2 : tie.Need-returns-2
+returns-2 c = search (needs, outermost-opens)
+
+cast-number : tie.Need-cast-number
+cast-number c = search needs
+
+mul-number : tie.Need-mul-number
+mul-number c = search needs
+
+mul-result : tie.Need-mul-result
+mul-result c = search needs
+
+shared-slice-read-result : tie.Need-shared-slice-read-result
+shared-slice-read-result c = search needs
+
+returns-3 : tie.Need-returns-3
+returns-3 c = search (needs, datum-opens)
+
+pub opens-spec : {M : Type 1} → statement M
+opens-spec =
+    tie.close
+    (tie.spec
+    returns
+    mul-if2
+    returns-2
+    cast-number
+    mul-number
+    mul-result
+    shared-slice-read-result
+    returns-3)
