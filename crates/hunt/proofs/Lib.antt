@@ -1,3 +1,4 @@
 pub mod Frames
 pub mod One
 pub mod Tests
+pub mod Window
