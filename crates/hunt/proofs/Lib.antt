@@ -1,4 +1,6 @@
+pub mod Along
 pub mod Frames
 pub mod One
+pub mod Scanning
 pub mod Tests
 pub mod Window
