@@ -5,13 +5,15 @@ use mathlib.Core.Path.{_≡_, refl, ap, sym, _∙_, subst, subst₂}
 use mathlib.Core.Logic.{_≢_, _⊎_, inl, inr}
 use mathlib.Core.List.{List, [], _∷_, _++_}
 use native.Mathlib.Omega.{arith}
-use lib.ListN.{length, length-append}
+use lib.ListN.{length, getD, length-append}
 use Rattle.plan.specs.Plan.{Plan, end, operator, token, block}
 use Rattle.memory.specs.Memory.{start, close, datum, link, whole, block-kind, ports, Says}
 use Rattle.memory.specs.Model.{Lent}
 use Rattle.memory.specs.declared.Held.{Held}
+use Rattle.memory.proofs.Whole.{number-whole}
 use Rattle.blocks.proofs.Ways.{ahead, way-ahead, Way}
 use Rattle.hunt.specs.Hunting.{SequenceAt, Scannable, Scanned, held-numbers, ready-at}
+use Rattle.hunt.specs.declared.Spot.{Spot}
 use Rattle.hunt.specs.declared.Hunted.{Hunted}
 use Rattle.hunt.specs.declared.Hunted.the-variants.{Nothing, Ready}
 use Rattle.hunt.proofs.Along.{way-sequence, way-skip}
@@ -66,6 +68,14 @@ Outcome text m n first stop last second kind at Nothing =
 Outcome text m n first stop last second kind at (Ready spot) =
     (s : ℕ) × (q : Plan ℕ) × (stop ≡ close s) × SequenceAt text n (whole n m first) s q × Scanned (Ready spot) s q
 
+-- what is found in the one sequence inside the cell is found in every one
+of-each : {text : List ℕ} {n : ℕ} {w : List ℕ} (r : Hunted) (s : ℕ) (q : Plan ℕ) (stop s′ : ℕ) → stop ≡ close s → SequenceAt text n w s q → Scanned r s q
+    → stop ≡ close s′ → (q′ : Plan ℕ) → SequenceAt text n w s′ q′ → Scanned r s′ q′
+of-each {text} {n} {w} r s q stop s′ e there found e′ q′ there′ =
+    let cell : s ≡ s′ = omega arith in
+    let same : q ≡ q′ = one-inside (subst (λ z. SequenceAt text n w z q) cell there) there′ in
+    subst₂ (Scanned r) cell same found
+
 module _ {text m : List ℕ} {n first stop last second third at : ℕ} (h : Scanning text m n first stop last second third at) (more : at ≢ stop) where
   abbrev w : List ℕ
   w = whole n m first
@@ -100,7 +110,10 @@ module _ {text m : List ℕ} {n first stop last second third at : ℕ} (h : Scan
         rw (way-ahead way, way-ahead way′) less,
       )
 
-  module _ (kind : ℕ) (reads : kind ≡ datum w at) where
+  module _ (kind : ℕ) (reads : kind ≡ getD m (2 * at) 0) where
+    says-kind : kind ≡ datum w at
+    says-kind = reads ∙ number-whole n m first (h .lent) (2 * at) (omega (arith, scan-low))
+
     abbrev Then : Hunted → Type 0
     Then r = Outcome text m n first stop last second kind at r
 
@@ -133,21 +146,30 @@ module _ {text m : List ℕ} {n first stop last second third at : ℕ} (h : Scan
     item end way says window = absurd (more (way .leads))
     item (operator c o p) way says window =
         let here = way .leads .0 in
-        let told = reads ∙ ap (datum w) here ∙ says .0 in
+        let told = says-kind ∙ ap (datum w) here ∙ says .0 in
         tested c (operator c o p) p (ready-at kind at last second third) refl (λ e. omega (arith, kind-low o)) way (says .1)
         (rw (told, here) (window-operator (h .cell) (h .sequence) last second third c p o window))
     item (token c t p) way says window =
         let here = way .leads .0 in
-        let told = reads ∙ ap (datum w) here ∙ says .0 in
+        let told = says-kind ∙ ap (datum w) here ∙ says .0 in
         subst Then (no-operator kind at last second third (omega arith))
         (pass-atom c (token c t p) p refl (λ e. omega arith) way (says .2) (window-token window))
     item (block c b p) way says window =
         let here = way .leads .0 in
-        let told = reads ∙ ap (datum w) here ∙ says .0 in
+        let told = says-kind ∙ ap (datum w) here ∙ says .0 in
         subst Then (no-operator kind at last second third (omega arith)) (pass-block c b p way (says .2) window told)
 
-    pub scan-item : Then (ready-at kind at last second third)
+    scan-item : Then (ready-at kind at last second third)
     scan-item = item (h .y) (h .way) (h .says) (h .window)
+
+    module _ (r : Hunted) (answers : r ≡ ready-at kind at last second third) where
+      pub scan-past : r ≡ Nothing → Then Nothing
+      scan-past e = subst Then (sym answers ∙ e) scan-item
+
+      pub scan-found : (spot : Spot) → r ≡ Ready spot → (s : ℕ) → stop ≡ close s → (q : Plan ℕ) → SequenceAt text n w s q → Scanned (Ready spot) s q
+      scan-found spot e s c q there =
+          let o = subst Then (sym answers ∙ e) scan-item in
+          of-each (Ready spot) (o .0) (o .1) stop s (o .2) (o .3) (o .4) c q there
 
 -- at the stop no item is left, so none was ready
 none-left : {w : List ℕ} {n stop at : ℕ} (y : Plan ℕ) → Way w n stop at (ports y) → at ≡ stop → y ≡ end
@@ -156,14 +178,6 @@ none-left end way e = refl
 none-left (operator c o p) way e = absurd (way .once .0 .0 (sym e ∙ way .leads .0))
 none-left (token c t p) way e = absurd (way .once .0 .0 (sym e ∙ way .leads .0))
 none-left (block c b p) way e = absurd (way .once .0 .0 (sym e ∙ way .leads .0))
-
--- what is found in the one sequence inside the cell is found in every one
-pub of-each : {text : List ℕ} {n : ℕ} {w : List ℕ} (r : Hunted) (s : ℕ) (q : Plan ℕ) (stop s′ : ℕ) → stop ≡ close s → SequenceAt text n w s q → Scanned r s q
-    → stop ≡ close s′ → (q′ : Plan ℕ) → SequenceAt text n w s′ q′ → Scanned r s′ q′
-of-each {text} {n} {w} r s q stop s′ e there found e′ q′ there′ =
-    let cell : s ≡ s′ = omega arith in
-    let same : q ≡ q′ = one-inside (subst (λ z. SequenceAt text n w z q) cell there) there′ in
-    subst₂ (Scanned r) cell same found
 
 pub scan-none : {text m : List ℕ} {n first stop last second third at : ℕ} → Scanning text m n first stop last second third at → at ≡ stop
     → (s : ℕ) → stop ≡ close s → (q : Plan ℕ) → SequenceAt text n (whole n m first) s q → Scanned Nothing s q
