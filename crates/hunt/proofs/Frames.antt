@@ -1,15 +1,17 @@
 -- Laws of what stands around a sequence: the ports, the labels and the items of a plan are those before the sequence, its own
 -- and those behind it. Another sequence put there keeps what is around it, so each law is one of both. The ports before end
 -- with the start of the sequence's cell and those behind begin with its close, so both stand in the law by themselves.
-use Prim.Native.Nat.{ℕ, _+_}
-use mathlib.Core.Path.{_≡_, refl, sym, _∙_}
+use Prim.Native.Nat.{ℕ, _+_, _*_, _≤_, _<_}
+use mathlib.Core.Path.{_≡_, refl, sym, _∙_, subst}
 use mathlib.Core.List.{List, [], _∷_, _++_, append-assoc, append-nil}
 use native.Mathlib.Omega.{arith}
 use Rattle.plan.specs.Plan.{Plan, end, operator, token, block, _then_, cells, labels, relabel, bare}
 use Rattle.plan.proofs.Plans.{cells-then, labels-then, relabel-then}
-use Rattle.memory.specs.Memory.{start, close, datum, block-kind, ports, Says}
+use Rattle.memory.specs.Memory.{start, close, datum, block-kind, ports, Linked, Says, Below, Distinct, Holds}
+use Rattle.memory.proofs.Lists.{below-split, below-absent, distinct-split, linked-split}
 use Rattle.memory.proofs.Ports.{ports-then, says-then}
 use Rattle.hunt.specs.Frames.{Frame, top, within, plug, cell-of}
+use Rattle.hunt.specs.Hunting.{SequenceAt}
 
 -- the ports before the start of the sequence's cell, and those behind its close
 unfoldable pub left : (n : ℕ) → Frame → List ℕ
@@ -84,3 +86,40 @@ cells-plug (within b c out a) q q′ =
       cells-then b (block c q a),
       cells-then b (block c q′ a),
     )
+
+-- a sequence of a plan that is held
+
+-- a block's cell is a lent one
+pub block-low : (n : ℕ) (b : Plan ℕ) (c : ℕ) (out : Frame) (a q : Plan ℕ) → Below n (labels (plug (within b c out a) q)) → c < n
+unfolding lefts
+block-low n b c out a q h =
+    let f = within b c out a in
+    let before = below-split n (lefts f) (labels q ++ rights f) (subst (Below n) (labels-plug f q) h) .0 in
+    below-split n (labels b) (c ∷ []) (below-split n (lefts out) (labels b ++ c ∷ []) before .1) .1 .0
+
+cell-low : (n : ℕ) (f : Frame) (q : Plan ℕ) → Below n (labels (plug f q)) → cell-of n f ≤ n
+cell-low n top q h = omega arith
+cell-low n (within b c out a) q h = omega (arith, block-low n b c out a q h)
+
+cell-distinct : (n : ℕ) (f : Frame) (q : Plan ℕ) → Below n (labels (plug f q)) → Distinct (labels (plug f q)) → Distinct (cell-of n f ∷ labels q)
+unfolding plug lefts
+cell-distinct n top q h d = (below-absent n n (labels q) (omega arith) h, d)
+cell-distinct n (within b c out a) q h d =
+    let f = within b c out a in
+    let parts : labels (plug f q) ≡ (lefts out ++ labels b) ++ c ∷ (labels q ++ rights f) = labels-plug f q ∙ simp append-assoc in
+    distinct-split (c ∷ labels q) (rights f) (distinct-split (lefts out ++ labels b) (c ∷ (labels q ++ rights f)) (subst Distinct parts d) .1) .0
+
+pub inside-plug : {text : List ℕ} {n : ℕ} {w : List ℕ} {free : ℕ} (f : Frame) (q : Plan ℕ) → Holds text n w free (plug f q)
+    → SequenceAt text n w (cell-of n f) q
+inside-plug {text} {n} {w} f q h =
+    let s = cell-of n f in
+    let spare = h .shared .spare in
+    let below = below-split n (labels (plug f q)) spare (h .shared .below) .0 in
+    let onward = linked-split w (left n f) (start s) (ports q ++ close s ∷ right n f) (subst (Linked w) (chain-plug n f q) (h .chain)) .1 in
+    record {
+      chain = linked-split w (start s ∷ ports q) (close s) (right n f) onward .0;
+      says = says-around text w f q (h .says) .1;
+      distinct = cell-distinct n f q below (distinct-split (labels (plug f q)) spare (h .shared .distinct) .0);
+      below = below-split n (labels q) (rights f) (below-split n (lefts f) (labels q ++ rights f) (subst (Below n) (labels-plug f q) below) .1) .0;
+      low = cell-low n f q below;
+    }
