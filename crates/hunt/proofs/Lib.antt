@@ -4,4 +4,5 @@ pub mod One
 pub mod Scanning
 pub mod Standing
 pub mod Tests
+pub mod Walking
 pub mod Window

@@ -93,10 +93,10 @@ unfolding under _else_
 found-opening h e = h .left ∙ ap (λ x. under (plug (h .frame)) x else beyond (h .frame) (h .q)) (outer-first (h .q) e)
 
 -- what a port is to the hunt: the opening of a sequence; or a port that is passed over; or the end of the plan
-pub data Turn (w : List ℕ) (n : ℕ) (t : Plan ℕ) (port : ℕ) : Type 0 where
-  at-opening : Opening w n t port → opens w port ≡ true → port ≢ close n → Turn w n t port
-  passed : Passing w n t (link w port) → opens w port ≡ false → port ≢ close n → Turn w n t port
-  at-end : next t ≡ none → port ≡ close n → Turn w n t port
+pub data Standing (w : List ℕ) (n : ℕ) (t : Plan ℕ) (port : ℕ) : Type 0 where
+  at-opening : Opening w n t port → opens w port ≡ true → port ≢ close n → Standing w n t port
+  passed : Passing w n t (link w port) → opens w port ≡ false → port ≢ close n → Standing w n t port
+  at-end : next t ≡ none → port ≡ close n → Standing w n t port
 
 start-opens : (w : List ℕ) (c : ℕ) → datum w (start c) ≡ block-kind → opens w (start c) ≡ true
 unfolding opens
@@ -115,8 +115,8 @@ module _ {text : List ℕ} {n : ℕ} {w : List ℕ} {free : ℕ} {t : Plan ℕ} 
   frame-kind top q e = outermost
   frame-kind (within b c out a) q e = says-around text w (within b c out a) q (subst (Says text w) e (held .says)) .0 .2
 
-  pub turn-opening : {port : ℕ} → Opening w n t port → Turn w n t port
-  turn-opening {port} h =
+  pub stand-opening : {port : ℕ} → Opening w n t port → Standing w n t port
+  stand-opening {port} h =
       at-opening h (rw (h .at) (start-opens w (cell-of n (h .frame)) (frame-kind (h .frame) (h .q) (h .there)))) (λ e. let at = h .at in omega arith)
 
   module _ (f : Frame) (d : Plan ℕ) where
@@ -126,7 +126,7 @@ module _ {text : List ℕ} {n : ℕ} {w : List ℕ} {free : ℕ} {t : Plan ℕ} 
     -- an operator or a token
     pass-atom : (c : ℕ) (i z p : Plan ℕ) {port : ℕ} → z ≡ i then p → inner z ≡ under (i then_) (inner p) → ports z ≡ start c ∷ ports p
         → datum w (start c) ≢ block-kind → t ≡ plug f (d then z) → First port (onward n f z) → Linked w (onward n f z)
-        → next t ≡ under (λ v. plug f (d then v)) (inner z) else beyond f (d then z) → Turn w n t port
+        → next t ≡ under (λ v. plug f (d then v)) (inner z) else beyond f (d then z) → Standing w n t port
     pass-atom c i z p {port} e inside same kind there at chain left =
         let moved : d then z ≡ (d then i) then p = ap (d then_) e ∙ sym (then-assoc d i p) in
         let here : port ≡ start c = subst (λ l. First port (l ++ close (cell-of n f) ∷ right n f)) same at in
@@ -163,7 +163,7 @@ module _ {text : List ℕ} {n : ℕ} {w : List ℕ} {free : ℕ} {t : Plan ℕ} 
 
   -- the close of a sequence
   leave : (f : Frame) (d : Plan ℕ) (port : ℕ) → t ≡ plug f (d then end) → First port (onward n f end) → Linked w (onward n f end)
-      → next t ≡ under (λ v. plug f (d then v)) (inner end) else beyond f (d then end) → Turn w n t port
+      → next t ≡ under (λ v. plug f (d then v)) (inner end) else beyond f (d then end) → Standing w n t port
   unfolding plug ports right beyond inner under _else_ _then_
   leave top d port there at chain left = at-end left at
   leave (within b c out a) d port there at chain left =
@@ -183,7 +183,7 @@ module _ {text : List ℕ} {n : ℕ} {w : List ℕ} {free : ℕ} {t : Plan ℕ} 
       )
 
   ahead-item : (f : Frame) (d z : Plan ℕ) (port : ℕ) → t ≡ plug f (d then z) → First port (onward n f z) → Linked w (onward n f z)
-      → next t ≡ under (λ v. plug f (d then v)) (inner z) else beyond f (d then z) → Turn w n t port
+      → next t ≡ under (λ v. plug f (d then v)) (inner z) else beyond f (d then z) → Standing w n t port
   unfolding ports inner _then_
   ahead-item f d end port there at chain left = leave f d port there at chain left
   ahead-item f d (operator c o p) port there at chain left =
@@ -192,7 +192,7 @@ module _ {text : List ℕ} {n : ℕ} {w : List ℕ} {free : ℕ} {t : Plan ℕ} 
   ahead-item f d (token c v p) port there at chain left =
       let kind = says-ahead f d (token c v p) there .0 in
       pass-atom f d c (token c v end) (token c v p) p refl refl refl (λ e. omega arith) there at chain left
-  ahead-item f d (block c b p) port there at chain left = turn-opening (enter f d c b p port there at chain left)
+  ahead-item f d (block c b p) port there at chain left = stand-opening (enter f d c b p port there at chain left)
 
-  pub turn-passing : {port : ℕ} → Passing w n t port → Turn w n t port
-  turn-passing {port} h = ahead-item (h .frame) (h .d) (h .z) port (h .there) (h .at) (h .chain) (h .left)
+  pub stand-passing : {port : ℕ} → Passing w n t port → Standing w n t port
+  stand-passing {port} h = ahead-item (h .frame) (h .d) (h .z) port (h .there) (h .at) (h .chain) (h .left)

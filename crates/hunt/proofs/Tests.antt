@@ -57,7 +57,7 @@ module _ (n : ℕ) (m : List ℕ) (first port : ℕ) where
   unfolding opens
   close-opens h = simp (ne-eqb (port % 2) 0 (λ z. omega arith))
 
-  outermost-datum : Lent n m → port ≡ 2 * n → datum (whole n m first) port ≡ block-kind
+  pub outermost-datum : Lent n m → port ≡ 2 * n → datum (whole n m first) port ≡ block-kind
   outermost-datum lent h =
       let there : 2 * port ≡ length (take (4 * n) m) + 0 = omega (arith, length-take-le (4 * n) m (lent .room)) in
       ap (λ k. getD (whole n m first) k 0) there ∙ getD-append-add (take (4 * n) m) (block-kind ∷ first ∷ []) 0 0
