@@ -1,0 +1,175 @@
+// The four rewrites of a plan in the memory. The operator leaves the chain first; then a moves the older block to the end of
+// the newer one and opens that, b moves the older block to the front of the newer one, c copies, d drops. Only links move: no
+// item is copied but by c, and a cell that leaves the plan is free at once.
+ghost use mathlib.Core.Path.{_≡_};
+ghost use Prim.Native.Nat.{ℕ, _≤_, _<_};
+ghost use Rattle.plan.specs.Plan.{Plan};
+ghost use Rattle.memory.specs.Memory.{start, close};
+ghost use Rattle.memory.specs.Model.{Aside, Lent};
+ghost use Rattle.hunt.specs.Frames.{Frame, plug};
+ghost use Rattle.hunt.specs.Hunting.{held-numbers};
+ghost use Rattle.rewrites.specs.Splices.{Spliced, cut, moved, put-in, released, unwrapped};
+ghost use Rattle.rewrites.specs.Rules.{DropBlock, OneBlock, Rewritable, Rewrites, Rewritten, RuleA, RuleB, RuleC, RuleD, TwoBlocks};
+use blocks::free_block;
+use blocks::last_port;
+use copier::copy_block;
+use hunt::Spot;
+use kinds::Cell;
+use memory::Held;
+use memory::Port;
+use memory::link_of;
+use memory::set_link;
+
+// Lets a port link to what stands behind another one: the ports between them, and that one, are out of the chain.
+fn cut(memory: &mut [u32], held: Held, after: Port, last: Port) -> Held
+    requires { ⌜ Lent (held .outer .0) (now memory) × (after .0 ≤ start (held .outer .0)) × (last .0 ≤ start (held .outer .0)) ⌝ }
+    ensures { λ r. ⌜ Spliced (now (memory .entry)) held (now (memory .exit)) r (cut (held-numbers (now (memory .entry)) held) (after .0) (last .0)) (held .free .0) ⌝ }
+{
+    let outer = held.outer;
+    let begin = held.first;
+    let free = held.free;
+    let to = link_of(memory, outer, begin, last);
+    let first = set_link(memory, outer, begin, after, to);
+    Held { outer, first, free }
+}
+
+// Puts a run of linked ports behind a port.
+fn put_in(memory: &mut [u32], held: Held, after: Port, head: Port, tail: Port) -> Held
+    requires { ⌜ Lent (held .outer .0) (now memory) × (after .0 ≤ start (held .outer .0)) × (tail .0 ≤ start (held .outer .0)) ⌝ }
+    ensures { λ r. ⌜ Spliced (now (memory .entry)) held (now (memory .exit)) r (put-in (held-numbers (now (memory .entry)) held) (after .0) (head .0) (tail .0)) (held .free .0) ⌝ }
+{
+    let outer = held.outer;
+    let begin = held.first;
+    let free = held.free;
+    let to = link_of(memory, outer, begin, after);
+    let between = set_link(memory, outer, begin, tail, to);
+    let first = set_link(memory, outer, between, after, head);
+    Held { outer, first, free }
+}
+
+// Moves a block from its place behind one port to that behind another.
+fn move_block(memory: &mut [u32], held: Held, before: Port, block: Cell, after: Port) -> Held
+    requires { ⌜ Lent (held .outer .0) (now memory) × (before .0 ≤ start (held .outer .0)) × (after .0 ≤ start (held .outer .0)) × (block .0 < held .outer .0) ⌝ }
+    ensures { λ r. ⌜ Spliced (now (memory .entry)) held (now (memory .exit)) r (moved (held-numbers (now (memory .entry)) held) (before .0) (block .0) (after .0)) (held .free .0) ⌝ }
+{
+    let head = Port::start(block);
+    let tail = Port::close(block);
+    let out = cut(memory, held, before, tail);
+    put_in(memory, out, after, head, tail)
+}
+
+// A cell that no port links to is free again.
+fn release(memory: &mut [u32], held: Held, cell: Cell) -> Held
+    requires { ⌜ Lent (held .outer .0) (now memory) × (cell .0 < held .outer .0) ⌝ }
+    ensures { λ r. ⌜ Spliced (now (memory .entry)) held (now (memory .exit)) r (released (held-numbers (now (memory .entry)) held) (held .free .0) (cell .0)) (cell .0) ⌝ }
+{
+    let outer = held.outer;
+    let begin = held.first;
+    let free = held.free;
+    let first = set_link(memory, outer, begin, Port::start(cell), Port(free.0));
+    Held {
+        outer,
+        first,
+        free: cell,
+    }
+}
+
+// Takes an operator out of the plan, from behind the block before it.
+fn remove_operator(memory: &mut [u32], held: Held, newer: Cell, operator: Cell) -> Held
+    requires { ⌜ Lent (held .outer .0) (now memory) × (newer .0 < held .outer .0) × (operator .0 < held .outer .0) ⌝ }
+    ensures { λ r. ⌜ Spliced (now (memory .entry)) held (now (memory .exit)) r (released (cut (held-numbers (now (memory .entry)) held) (close (newer .0)) (start (operator .0))) (held .free .0) (operator .0)) (operator .0) ⌝ }
+{
+    let out = cut(memory, held, Port::close(newer), Port::start(operator));
+    release(memory, out, operator)
+}
+
+// Opens a block: its contents, which end at the port `last`, stand in its place.
+fn unwrap(memory: &mut [u32], held: Held, before: Port, block: Cell, last: Port) -> Held
+    requires { ⌜ Lent (held .outer .0) (now memory) × (before .0 ≤ start (held .outer .0)) × (last .0 ≤ start (held .outer .0)) × (block .0 < held .outer .0) ⌝ }
+    ensures { λ r. ⌜ Spliced (now (memory .entry)) held (now (memory .exit)) r (unwrapped (held-numbers (now (memory .entry)) held) (held .free .0) (before .0) (block .0) (last .0)) (block .0) ⌝ }
+{
+    let ended = cut(memory, held, last, Port::close(block));
+    let begun = cut(memory, ended, before, Port::start(block));
+    release(memory, begun, block)
+}
+
+// The rule of a, once its operator is out: the older block behind the contents of the newer one, which is opened.
+fn rule_a(memory: &mut [u32], held: Held, before: Port, older: Cell, newer: Cell) -> Held
+    requires { ⌜ TwoBlocks (now memory) held (before .0) (older .0) (newer .0) ⌝ }
+    ensures changed { λ r. ⌜ RuleA (now (memory .entry)) held (now (memory .exit)) r (before .0) (older .0) (newer .0) ⌝ }
+    ensures same_cells { λ r. ⌜ r .outer ≡ held .outer ⌝ }
+    ensures aside { λ r. ⌜ Aside (held .outer .0) (now (memory .entry)) (now (memory .exit)) ⌝ }
+{
+    let outer = held.outer;
+    let first = held.first;
+    let last = last_port(memory, outer, first, newer);
+    let joined = move_block(memory, held, before, older, last);
+    unwrap(memory, joined, before, newer, Port::close(older))
+}
+
+// The rule of b, once its operator is out: the older block before the contents of the newer one.
+fn rule_b(memory: &mut [u32], held: Held, before: Port, older: Cell, newer: Cell) -> Held
+    requires { ⌜ TwoBlocks (now memory) held (before .0) (older .0) (newer .0) ⌝ }
+    ensures changed { λ r. ⌜ RuleB (now (memory .entry)) held (now (memory .exit)) r (before .0) (older .0) (newer .0) ⌝ }
+    ensures same_cells { λ r. ⌜ r .outer ≡ held .outer ⌝ }
+    ensures aside { λ r. ⌜ Aside (held .outer .0) (now (memory .entry)) (now (memory .exit)) ⌝ }
+{
+    move_block(memory, held, before, older, Port::start(newer))
+}
+
+// The rule of c, once its operator is out: a copy of the block behind it.
+fn rule_c(text: &[u8], memory: &mut [u32], held: Held, newer: Cell) -> Held
+    requires { ⌜ OneBlock (now text) (now memory) held (newer .0) ⌝ }
+    ensures changed { λ r. ⌜ RuleC (now (text .entry)) (now (memory .entry)) held (now (memory .exit)) r (newer .0) ⌝ }
+    ensures same_cells { λ r. ⌜ r .outer ≡ held .outer ⌝ }
+    ensures aside { λ r. ⌜ Aside (held .outer .0) (now (memory .entry)) (now (memory .exit)) ⌝ }
+{
+    let made = copy_block(text, memory, held, newer);
+    let beside = made.held;
+    let copy = made.copy;
+    put_in(
+        memory,
+        beside,
+        Port::close(newer),
+        Port::start(copy),
+        Port::close(copy),
+    )
+}
+
+// The rule of d, once its operator is out: the block leaves the plan, and its cells are free.
+fn rule_d(memory: &mut [u32], held: Held, before: Port, newer: Cell) -> Held
+    requires { ⌜ DropBlock (now memory) held (before .0) (newer .0) ⌝ }
+    ensures changed { λ r. ⌜ RuleD (now (memory .entry)) held (now (memory .exit)) r (before .0) (newer .0) ⌝ }
+    ensures same_cells { λ r. ⌜ r .outer ≡ held .outer ⌝ }
+    ensures aside { λ r. ⌜ Aside (held .outer .0) (now (memory .entry)) (now (memory .exit)) ⌝ }
+{
+    let out = cut(memory, held, before, Port::close(newer));
+    let outer = out.outer;
+    let first = out.first;
+    let spare = out.free;
+    let free = free_block(memory, outer, first, spare, newer);
+    Held { outer, first, free }
+}
+
+// Makes the rewrite of a ready operator: the memory then holds what the rule gives.
+pub fn rewrite(text: &[u8], memory: &mut [u32], held: Held, spot: Spot) -> Held
+    requires { ⌜ Rewritable (now text) (now memory) held spot ⌝ }
+    ensures rewritten { λ r. ⌜ ((f : Frame) (q q′ : Plan ℕ) → Rewrites (now (text .entry)) (now (memory .entry)) held spot f q q′ → Rewritten (now (text .entry)) (now (memory .exit)) r (plug f q′)) ⌝ }
+    ensures same_cells { λ r. ⌜ r .outer ≡ held .outer ⌝ }
+    ensures aside { λ r. ⌜ Aside (held .outer .0) (now (memory .entry)) (now (memory .exit)) ⌝ }
+{
+    let before = spot.before;
+    let older = spot.older;
+    let newer = spot.newer;
+    let rest = remove_operator(memory, held, newer, spot.operator);
+    if spot.kind == 0 {
+        return rule_a(memory, rest, before, older, newer);
+    }
+    if spot.kind == 1 {
+        return rule_b(memory, rest, before, older, newer);
+    }
+    if spot.kind == 2 {
+        return rule_c(text, memory, rest, newer);
+    }
+    rule_d(memory, rest, before, newer)
+}
