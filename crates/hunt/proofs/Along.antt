@@ -1,7 +1,7 @@
 -- Further laws of ways: the way through a sequence, which may be jumped along, and the way through a whole plan, which may be
 -- entered at any port of it. The outermost start belongs to a cell that is not lent, so that way counts one cell more.
-use Prim.Native.Nat.{ℕ, suc, _+_, _*_, _≤_}
-use mathlib.Core.Path.{_≡_, refl, ap, subst, sym}
+use Prim.Native.Nat.{ℕ, suc, _+_}
+use mathlib.Core.Path.{_≡_, ap, subst}
 use mathlib.Core.Logic.{_≢_}
 use mathlib.Core.List.{List, [], _∷_, _++_}
 use native.Mathlib.Omega.{arith}

@@ -1,7 +1,7 @@
 -- Laws of what stands around a sequence: the ports, the labels and the items of a plan are those before the sequence, its own
 -- and those behind it. Another sequence put there keeps what is around it, so each law is one of both. The ports before end
 -- with the start of the sequence's cell and those behind begin with its close, so both stand in the law by themselves.
-use Prim.Native.Nat.{ℕ, _+_, _*_, _≤_, _<_}
+use Prim.Native.Nat.{ℕ, _+_, _≤_, _<_}
 use mathlib.Core.Path.{_≡_, refl, sym, _∙_, subst}
 use mathlib.Core.List.{List, [], _∷_, _++_, append-assoc, append-nil}
 use native.Mathlib.Omega.{arith}

@@ -3,7 +3,7 @@
 use Prim.Native.Nat.{ℕ, _+_, _*_, _≤_, _<_}
 use mathlib.Core.Path.{_≡_, refl, ap, sym, _∙_, subst, subst₂}
 use mathlib.Core.Logic.{_≢_, _⊎_, inl, inr}
-use mathlib.Core.List.{List, [], _∷_, _++_}
+use mathlib.Core.List.{List, [], _∷_}
 use native.Mathlib.Omega.{arith}
 use lib.ListN.{length, getD, length-append}
 use Rattle.plan.specs.Plan.{Plan, end, operator, token, block}
@@ -69,8 +69,8 @@ Outcome text m n first stop last second kind at (Ready spot) =
     (s : ℕ) × (q : Plan ℕ) × (stop ≡ close s) × SequenceAt text n (whole n m first) s q × Scanned (Ready spot) s q
 
 -- what is found in the one sequence inside the cell is found in every one
-of-each : {text : List ℕ} {n : ℕ} {w : List ℕ} (r : Hunted) (s : ℕ) (q : Plan ℕ) (stop s′ : ℕ) → stop ≡ close s → SequenceAt text n w s q → Scanned r s q
-    → stop ≡ close s′ → (q′ : Plan ℕ) → SequenceAt text n w s′ q′ → Scanned r s′ q′
+of-each : {text : List ℕ} {n : ℕ} {w : List ℕ} (r : Hunted) (s : ℕ) (q : Plan ℕ) (stop s′ : ℕ) → stop ≡ close s → SequenceAt text n w s q
+    → Scanned r s q → stop ≡ close s′ → (q′ : Plan ℕ) → SequenceAt text n w s′ q′ → Scanned r s′ q′
 of-each {text} {n} {w} r s q stop s′ e there found e′ q′ there′ =
     let cell : s ≡ s′ = omega arith in
     let same : q ≡ q′ = one-inside (subst (λ z. SequenceAt text n w z q) cell there) there′ in
@@ -136,8 +136,8 @@ module _ {text m : List ℕ} {n first stop last second third at : ℕ} (h : Scan
     unfolding ports
     pass-block c b p way says window told last′ at′ (inl passed) a =
         let here = way .leads .0 in
-        onward (block c b p) p (close c) way (way-skip (start c ∷ ports b) (close c) (ports p) way) (omega (arith, length-append (ports b) (close c ∷ ports p)))
-        says (window-block window) last′ at′ (omega arith) a
+        onward (block c b p) p (close c) way (way-skip (start c ∷ ports b) (close c) (ports p) way)
+        (omega (arith, length-append (ports b) (close c ∷ ports p))) says (window-block window) last′ at′ (omega arith) a
     pass-block c b p way says window told last′ at′ (inr passed) a = absurd (passed .0 told)
 
     item : (y : Plan ℕ) → Way w n stop at (ports y) → Says text w y → Window (h .cell) (h .sequence) last second third y

@@ -1,7 +1,7 @@
 -- Where the hunt stands in a plan, on plain values: at a sequence's opening with nothing ready before it, or behind the opening
 -- with the sequence's own operators not ready and those inside its blocks so far neither. Each equation for the next rewrite is
 -- the order's own definition, taken apart at that port.
-use Prim.Native.Nat.{ℕ, _+_, _*_, _%_}
+use Prim.Native.Nat.{ℕ, _+_, _%_}
 use mathlib.Core.Path.{_≡_, refl, ap, sym, _∙_, subst}
 use mathlib.Core.Logic.{_≢_}
 use mathlib.Core.Bool.{true, false}
@@ -26,6 +26,7 @@ use Rattle.hunt.proofs.One.{kind-low}
 abbrev pub onward : (n : ℕ) → Frame → Plan ℕ → List ℕ
 onward n f z = ports z ++ close (cell-of n f) ∷ right n f
 
+-- the port is the first of the list
 abbrev First : ℕ → List ℕ → Type 0
 First port [] = ⊥
 First port (x ∷ xs) = port ≡ x
@@ -61,16 +62,10 @@ linked-tail w x (y ∷ xs) h = h .1
 
 -- the order
 
-under-none : {A B : Type 0} (g : A → B) (x y : Option A) (z : Option B) → under g (x else y) else z ≡ under g x else (under g y else z)
+under-rest : {A B : Type 0} (g : A → B) (x y : Option A) (z : Option B) → under g (x else y) else z ≡ under g x else (under g y else z)
 unfolding under _else_
-under-none g none y z = refl
-under-none g (some a) y z = refl
-
--- an item is passed
-under-item : (f : Frame) (d i : Plan ℕ) (x : Option (Plan ℕ)) → under (λ v. plug f (d then v)) (under (i then_) x) ≡ under (λ v. plug f ((d then i) then v)) x
-unfolding under
-under-item f d i none = refl
-under-item f d i (some v) = ap (λ r. some (plug f r)) (sym (then-assoc d i v))
+under-rest g none y z = refl
+under-rest g (some a) y z = refl
 
 -- behind an opening where no operator of the sequence itself is ready
 pub pass-opening : {w : List ℕ} {n : ℕ} {t : Plan ℕ} {port : ℕ} (h : Opening w n t port) → outer (h .q) ≡ none → Passing w n t (link w port)
@@ -110,7 +105,8 @@ close-shut : (w : List ℕ) (c : ℕ) → opens w (close c) ≡ false
 unfolding opens
 close-shut w c = simp (ne-eqb (close c % 2) 0 (λ e. omega arith))
 
-module _ {text : List ℕ} {n : ℕ} {w : List ℕ} {free : ℕ} {t : Plan ℕ} (held : Holds text n w free t) (outermost : datum w (start n) ≡ block-kind) where
+module _ {text : List ℕ} {n : ℕ} {w : List ℕ} {free : ℕ} {t : Plan ℕ}
+    (held : Holds text n w free t) (outermost : datum w (start n) ≡ block-kind) where
   frame-kind : (f : Frame) (q : Plan ℕ) → t ≡ plug f q → datum w (start (cell-of n f)) ≡ block-kind
   frame-kind top q e = outermost
   frame-kind (within b c out a) q e = says-around text w (within b c out a) q (subst (Says text w) e (held .says)) .0 .2
@@ -124,23 +120,22 @@ module _ {text : List ℕ} {n : ℕ} {w : List ℕ} {free : ℕ} {t : Plan ℕ} 
     says-ahead z e = says-split text w d z (says-around text w f (d then z) (subst (Says text w) e (held .says)) .1) .1
 
     -- an operator or a token
-    pass-atom : (c : ℕ) (i z p : Plan ℕ) {port : ℕ} → z ≡ i then p → inner z ≡ under (i then_) (inner p) → ports z ≡ start c ∷ ports p
-        → datum w (start c) ≢ block-kind → t ≡ plug f (d then z) → First port (onward n f z) → Linked w (onward n f z)
-        → next t ≡ under (λ v. plug f (d then v)) (inner z) else beyond f (d then z) → Standing w n t port
-    pass-atom c i z p {port} e inside same kind there at chain left =
-        let moved : d then z ≡ (d then i) then p = ap (d then_) e ∙ sym (then-assoc d i p) in
-        let here : port ≡ start c = subst (λ l. First port (l ++ close (cell-of n f) ∷ right n f)) same at in
-        let on : Linked w (start c ∷ onward n f p) = subst (λ l. Linked w (l ++ close (cell-of n f) ∷ right n f)) same chain in
+    pass-atom : (c : ℕ) (i p : Plan ℕ) {port : ℕ} → inner (i then p) ≡ under (i then_) (inner p) → ports (i then p) ≡ start c ∷ ports p
+        → datum w (start c) ≢ block-kind → t ≡ plug f (d then (i then p)) → First port (onward n f (i then p)) → Linked w (onward n f (i then p))
+        → next t ≡ under (λ v. plug f (d then v)) (inner (i then p)) else beyond f (d then (i then p)) → Standing w n t port
+    pass-atom c i p {port} inside same kind there at chain left =
+        let behind = close (cell-of n f) ∷ right n f in
+        let here : port ≡ start c = subst (λ l. First port (l ++ behind)) same at in
+        let on : Linked w (start c ∷ onward n f p) = subst (λ l. Linked w (l ++ behind)) same chain in
         rw here (
         passed record {
           frame = f;
           d = d then i;
           z = p;
-          there = there ∙ ap (plug f) moved;
+          there = there ∙ ap (plug f) (sym (then-assoc d i p));
           at = first-linked w (start c) (ports p) (close (cell-of n f)) (right n f) on;
           chain = linked-tail w (start c) (onward n f p) on;
-          left = left ∙ ap (λ x. under (λ v. plug f (d then v)) x else beyond f (d then z)) inside
-              ∙ ap (_else beyond f (d then z)) (under-item f d i (inner p)) ∙ ap (λ q. under (λ v. plug f ((d then i) then v)) (inner p) else beyond f q) moved;
+          left = (rw inside at left) ∙ simp (under-under, then-assoc);
         } (atom-opens w c kind) (λ e. omega arith)
         )
 
@@ -156,9 +151,7 @@ module _ {text : List ℕ} {n : ℕ} {w : List ℕ} {free : ℕ} {t : Plan ℕ} 
         there = there;
         at = at;
         chain = simp append-assoc at chain;
-        left = left
-            ∙ under-none (λ v. plug f (d then v)) (under (λ B. block c B p) (outer b else inner b)) (under (block c b) (inner p)) (beyond f (d then block c b p))
-            ∙ rw (under-under (λ B. block c B p) (λ v. plug f (d then v)) (outer b else inner b), under-under (block c b) (λ v. plug f (d then v)) (inner p));
+        left = left ∙ simp (under-rest, under-under);
       }
 
   -- the close of a sequence
@@ -167,15 +160,14 @@ module _ {text : List ℕ} {n : ℕ} {w : List ℕ} {free : ℕ} {t : Plan ℕ} 
   unfolding plug ports right beyond inner under _else_ _then_
   leave top d port there at chain left = at-end left at
   leave (within b c out a) d port there at chain left =
-      let low = block-low n b c out a (d then end) (subst (λ v. Below n (labels v)) there (below-split n (labels t) (held .shared .spare) (held .shared .below) .0)) in
-      let moved : (v : Plan ℕ) → b then block c (d then end) v ≡ (b then block c d end) then v =
-      λ v. ap (λ q. b then block c q v) (then-end d) ∙ sym (then-assoc b (block c d end) v) in
+      let below = below-split n (labels t) (held .shared .spare) (held .shared .below) .0 in
+      let low = block-low n b c out a (d then end) (subst (λ v. Below n (labels v)) there below) in
       rw at (
       passed record {
         frame = out;
         d = b then block c d end;
         z = a;
-        there = there ∙ ap (plug out) (moved a);
+        there = there ∙ simp (then-assoc, then-end);
         at = first-linked w (close c) (ports a) (close (cell-of n out)) (right n out) chain;
         chain = linked-tail w (close c) (onward n out a) chain;
         left = left ∙ simp (then-assoc, then-end);
@@ -188,10 +180,10 @@ module _ {text : List ℕ} {n : ℕ} {w : List ℕ} {free : ℕ} {t : Plan ℕ} 
   ahead-item f d end port there at chain left = leave f d port there at chain left
   ahead-item f d (operator c o p) port there at chain left =
       let kind = says-ahead f d (operator c o p) there .0 in
-      pass-atom f d c (operator c o end) (operator c o p) p refl refl refl (λ e. omega (arith, kind-low o)) there at chain left
+      pass-atom f d c (operator c o end) p refl refl (λ e. omega (arith, kind-low o)) there at chain left
   ahead-item f d (token c v p) port there at chain left =
       let kind = says-ahead f d (token c v p) there .0 in
-      pass-atom f d c (token c v end) (token c v p) p refl refl refl (λ e. omega arith) there at chain left
+      pass-atom f d c (token c v end) p refl refl (λ e. omega arith) there at chain left
   ahead-item f d (block c b p) port there at chain left = stand-opening (enter f d c b p port there at chain left)
 
   pub stand-passing : {port : ℕ} → Passing w n t port → Standing w n t port

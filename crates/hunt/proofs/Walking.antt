@@ -1,6 +1,6 @@
 -- The walk of `hunt` along the chain of the whole plan. The way counts one cell more than are lent, since it may begin at the
 -- outermost start.
-use Prim.Native.Nat.{ℕ, suc, _+_, _*_, _/_, _≤_, _<_}
+use Prim.Native.Nat.{ℕ, suc, _+_, _/_, _≤_, _<_}
 use mathlib.Core.Path.{_≡_, refl, ap, sym, _∙_, subst}
 use mathlib.Core.Logic.{_≢_}
 use mathlib.Core.Bool.{Bool, true, false}
@@ -14,7 +14,7 @@ use Rattle.memory.specs.Model.{Lent}
 use Rattle.memory.specs.declared.Held.{Held}
 use Rattle.memory.proofs.Lists.{linked-split}
 use Rattle.blocks.proofs.Ways.{ahead, Way, Turn, turn}
-use Rattle.hunt.specs.Frames.{cell-of, plug}
+use Rattle.hunt.specs.Frames.{cell-of}
 use Rattle.hunt.specs.Hunting.{SequenceAt, Scannable, Scanned, Finds, Huntable, held-numbers, opens}
 use Rattle.hunt.specs.declared.Spot.{Spot}
 use Rattle.hunt.specs.declared.Hunted.{Hunted}
@@ -22,7 +22,18 @@ use Rattle.hunt.specs.declared.Hunted.the-variants.{Nothing, Ready}
 use Rattle.hunt.proofs.Along.{way-whole, way-at}
 use Rattle.hunt.proofs.Frames.{left, chain-plug, inside-plug}
 use Rattle.hunt.proofs.One.{one-held}
-use Rattle.hunt.proofs.Standing.{Standing, onward, Opening, at-opening, passed, at-end, stand-opening, stand-passing, pass-opening, found-opening}
+use Rattle.hunt.proofs.Standing.{
+  Standing,
+  onward,
+  Opening,
+  at-opening,
+  passed,
+  at-end,
+  stand-opening,
+  stand-passing,
+  pass-opening,
+  found-opening,
+}
 use Rattle.hunt.proofs.Tests.{outermost-datum}
 
 pub record Walking (text m : List ℕ) (h : Held) (stop port : ℕ) : Type 0 where

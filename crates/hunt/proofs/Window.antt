@@ -1,7 +1,7 @@
 -- What the scan of a sequence knows of the items that it has passed, on plain plans: which of the last two are blocks, that no
 -- operator before them is ready, and the ports before them. With at most two blocks and the next item at hand, whether that
 -- item is a ready operator is the computation of the rule itself.
-use Prim.Native.Nat.{ℕ, _+_, _*_, _/_, _%_}
+use Prim.Native.Nat.{ℕ, _+_, _/_, _%_, _≤_, _<_}
 use mathlib.Core.Path.{_≡_, refl, ap, sym, _∙_, subst}
 use mathlib.Core.List.{List, [], _∷_, _++_}
 use mathlib.Core.Option.{Option, none, some}
@@ -12,10 +12,10 @@ use Rattle.plan.specs.Rewriting.{after-two, first-block, outer}
 use Rattle.plan.proofs.Plans.{then-assoc}
 use Rattle.memory.specs.Memory.{start, close, operator-kind, ports, last-of}
 use Rattle.memory.proofs.Ports.{ports-then}
-use Rattle.hunt.specs.Hunting.{Stands, by-a, by-b, by-c, by-d, Scanned, ready-at}
+use Rattle.hunt.specs.Hunting.{by-a, by-b, by-c, by-d, Scanned, ready-at}
 use Rattle.hunt.specs.declared.Hunted.{Hunted}
 use Rattle.hunt.specs.declared.Hunted.the-variants.{Nothing, Ready}
-use Rattle.hunt.proofs.Tests.{behind-two, second-missing, both-missing, behind-one, block-missing}
+use Rattle.hunt.proofs.Tests.{spot-at, behind-two, second-missing, both-missing, behind-one, block-missing}
 
 -- in the sequence q inside the cell s, z is behind the port `before`, and the leftmost ready operator is one of z's
 pub record Front (s : ℕ) (q : Plan ℕ) (before : ℕ) (z : Plan ℕ) : Type 0 where
@@ -101,89 +101,89 @@ window-block {c} {C} (one-block m A h e d) = two-blocks m A c C h refl e
 window-block {s} {q} {second} {c} {C} {p} (two-blocks l B m A h e d) =
     two-blocks m A c C (subst (λ z. Front s q z (block m A (block c C p))) (sym d) (past-block h refl)) refl e
 
--- what the test of an operator at a cell says
+-- what the test of the operator at a port says: it is passed, and p is behind it; or it is ready
 abbrev pub Tested : Hunted → (s : ℕ) → (q : Plan ℕ) → (at last second : ℕ) → (p : Plan ℕ) → Type 0
 Tested Nothing s q at last second p = Window s q at last second p
 Tested (Ready spot) s q at last second p = Scanned (Ready spot) s q
 
 module _ (s : ℕ) (q : Plan ℕ) (last second third c : ℕ) (p : Plan ℕ) where
+  abbrev test : (kind : ℕ) → Hunted
+  test kind = ready-at kind (start c) last second third
+
   abbrev Answer : Hunted → Type 0
   Answer r = Tested r s q (start c) last second p
 
-  window-a : Window s q last second third (operator c op-a p) → Answer (ready-at 0 (start c) last second third)
-  unfolding first-block after-two outer under _else_
-  window-a (no-block h e) = subst Answer (both-missing 0 (start c) last second third (omega arith) (omega arith)) (no-block (past-operator h) (omega arith))
-  window-a (one-block m A h e d) =
-      subst Answer (second-missing 0 (start c) last second third (omega arith) (omega arith) (omega arith))
-      (no-block (past-operator (past-block h refl)) (omega arith))
-  window-a (two-blocks l B m A h e d) =
-      let older : second / 2 ≡ l = omega arith in
-      let newer : last / 2 ≡ m = omega arith in
-      let self : start c / 2 ≡ c = omega arith in
-      subst Answer (behind-two 0 (start c) last second third (omega arith) (omega arith) (omega arith)) (
-        h .front then (A then block l B p),
-        record { front = h .front; behind = p; before = h .at; rule = by-a B A refl (rw (older, newer, self) (h .parts)) (rw older) },
-        h .found,
-      )
+  not-ready : {o : Operator} {before : ℕ} (kind : ℕ) → Nothing ≡ test kind → Front s q before (operator c o p) → Answer (test kind)
+  not-ready kind e h = subst Answer e (no-block (past-operator h) (omega arith))
 
-  window-b : Window s q last second third (operator c op-b p) → Answer (ready-at 1 (start c) last second third)
-  unfolding first-block after-two outer under _else_
-  window-b (no-block h e) = subst Answer (both-missing 1 (start c) last second third (omega arith) (omega arith)) (no-block (past-operator h) (omega arith))
-  window-b (one-block m A h e d) =
-      subst Answer (second-missing 1 (start c) last second third (omega arith) (omega arith) (omega arith))
-      (no-block (past-operator (past-block h refl)) (omega arith))
-  window-b (two-blocks l B m A h e d) =
-      let older : second / 2 ≡ l = omega arith in
-      let newer : last / 2 ≡ m = omega arith in
-      let self : start c / 2 ≡ c = omega arith in
-      subst Answer (behind-two 1 (start c) last second third (omega arith) (omega arith) (omega arith)) (
-        h .front then block m (block l B A) p,
-        record { front = h .front; behind = p; before = h .at; rule = by-b B A refl (rw (older, newer, self) (h .parts)) (rw (older, newer)) },
-        h .found,
-      )
+  self : start c / 2 ≡ c
+  self = omega arith
 
-  -- the newer block alone is at hand
-  ready-c : (m : ℕ) (A : Plan ℕ) → Front s q second (block m A (operator c op-c p)) → last ≡ close m → Answer (ready-at 2 (start c) last second third)
-  unfolding first-block outer under _else_
-  ready-c m A h e =
-      let newer : last / 2 ≡ m = omega arith in
-      let self : start c / 2 ≡ c = omega arith in
-      subst Answer (behind-one 2 (start c) last second third (omega arith) (omega arith) (omega arith)) (
-        h .front then block m A (block m A p),
-        record { front = h .front; behind = p; before = h .at; rule = by-c A refl (rw (newer, self) (h .parts)) (rw newer) },
-        h .found,
-      )
+  -- the operators a and b are ready behind two blocks and not behind one
+  two-wanted : (o : Operator) (kind : ℕ) → kind < 2 → ((m : ℕ) (A : Plan ℕ) → first-block m A (operator c o p) ≡ none)
+      → ((l : ℕ) (B : Plan ℕ) (m : ℕ) (A : Plan ℕ) → Front s q third (block l B (block m A (operator c o p))) → last / 2 ≡ m → second / 2 ≡ l
+      → Scanned (Ready (spot-at kind (start c) last second third)) s q)
+      → Window s q last second third (operator c o p) → Answer (test kind)
+  two-wanted o kind low one two (no-block h e) = not-ready kind (both-missing kind (start c) last second third low (omega arith)) h
+  two-wanted o kind low one two (one-block m A h e d) =
+      not-ready kind (second-missing kind (start c) last second third low (omega arith) (omega arith)) (past-block h (one m A))
+  two-wanted o kind low one two (two-blocks l B m A h e d) =
+      subst Answer (behind-two kind (start c) last second third low (omega arith) (omega arith)) (two l B m A h (omega arith) (omega arith))
 
-  window-c : Window s q last second third (operator c op-c p) → Answer (ready-at 2 (start c) last second third)
-  unfolding first-block after-two
-  window-c (no-block h e) =
-      subst Answer (block-missing 2 (start c) last second third (omega arith) (omega arith) (omega arith)) (no-block (past-operator h) (omega arith))
-  window-c (one-block m A h e d) = ready-c m A h e
-  window-c (two-blocks l B m A h e d) =
-      ready-c m A (subst (λ z. Front s q z (block m A (operator c op-c p))) (sym d) (past-block h refl)) e
+  ready-a : (l : ℕ) (B : Plan ℕ) (m : ℕ) (A : Plan ℕ) → Front s q third (block l B (block m A (operator c op-a p))) → last / 2 ≡ m → second / 2 ≡ l
+      → Scanned (Ready (spot-at 0 (start c) last second third)) s q
+  unfolding outer first-block after-two under _else_
+  ready-a l B m A h newer older = (
+    h .front then (A then block l B p),
+    record { front = h .front; behind = p; before = h .at; rule = by-a B A refl (rw (older, newer, self) (h .parts)) (rw older) },
+    h .found,
+  )
 
-  ready-d : (m : ℕ) (A : Plan ℕ) → Front s q second (block m A (operator c op-d p)) → last ≡ close m → Answer (ready-at 3 (start c) last second third)
-  unfolding first-block outer under _else_
-  ready-d m A h e =
-      let newer : last / 2 ≡ m = omega arith in
-      let self : start c / 2 ≡ c = omega arith in
-      subst Answer (behind-one 3 (start c) last second third (omega arith) (omega arith) (omega arith)) (
-        h .front then p,
-        record { front = h .front; behind = p; before = h .at; rule = by-d A refl (rw (newer, self) (h .parts)) refl },
-        h .found,
-      )
+  ready-b : (l : ℕ) (B : Plan ℕ) (m : ℕ) (A : Plan ℕ) → Front s q third (block l B (block m A (operator c op-b p))) → last / 2 ≡ m → second / 2 ≡ l
+      → Scanned (Ready (spot-at 1 (start c) last second third)) s q
+  unfolding outer first-block after-two under _else_
+  ready-b l B m A h newer older = (
+    h .front then block m (block l B A) p,
+    record { front = h .front; behind = p; before = h .at; rule = by-b B A refl (rw (older, newer, self) (h .parts)) (rw (older, newer)) },
+    h .found,
+  )
 
-  window-d : Window s q last second third (operator c op-d p) → Answer (ready-at 3 (start c) last second third)
-  unfolding first-block after-two
-  window-d (no-block h e) =
-      subst Answer (block-missing 3 (start c) last second third (omega arith) (omega arith) (omega arith)) (no-block (past-operator h) (omega arith))
-  window-d (one-block m A h e d) = ready-d m A h e
-  window-d (two-blocks l B m A h e d) =
-      ready-d m A (subst (λ z. Front s q z (block m A (operator c op-d p))) (sym d) (past-block h refl)) e
+  -- the operators c and d are ready behind one block, whatever stands before it
+  one-wanted : (o : Operator) (kind : ℕ) → 2 ≤ kind → kind < 4
+      → ((l : ℕ) (B : Plan ℕ) (m : ℕ) (A : Plan ℕ) → after-two l B m A (operator c o p) ≡ none)
+      → ((m : ℕ) (A : Plan ℕ) → Front s q second (block m A (operator c o p)) → last / 2 ≡ m
+      → Scanned (Ready (spot-at kind (start c) last second second)) s q)
+      → Window s q last second third (operator c o p) → Answer (test kind)
+  unfolding first-block
+  one-wanted o kind high low two one (no-block h e) = not-ready kind (block-missing kind (start c) last second third high low (omega arith)) h
+  one-wanted o kind high low two one (one-block m A h e d) =
+      subst Answer (behind-one kind (start c) last second third high low (omega arith)) (one m A h (omega arith))
+  one-wanted o kind high low two one (two-blocks l B m A h e d) =
+      let nearer : Front s q second (block m A (operator c o p)) = rw d (past-block h (two l B m A)) in
+      subst Answer (behind-one kind (start c) last second third high low (omega arith)) (one m A nearer (omega arith))
+
+  ready-c : (m : ℕ) (A : Plan ℕ) → Front s q second (block m A (operator c op-c p)) → last / 2 ≡ m
+      → Scanned (Ready (spot-at 2 (start c) last second second)) s q
+  unfolding outer first-block under _else_
+  ready-c m A h newer = (
+    h .front then block m A (block m A p),
+    record { front = h .front; behind = p; before = h .at; rule = by-c A refl (rw (newer, self) (h .parts)) (rw newer) },
+    h .found,
+  )
+
+  ready-d : (m : ℕ) (A : Plan ℕ) → Front s q second (block m A (operator c op-d p)) → last / 2 ≡ m
+      → Scanned (Ready (spot-at 3 (start c) last second second)) s q
+  unfolding outer first-block under _else_
+  ready-d m A h newer = (
+    h .front then p,
+    record { front = h .front; behind = p; before = h .at; rule = by-d A refl (rw (newer, self) (h .parts)) refl },
+    h .found,
+  )
 
   pub window-operator : (o : Operator) → Window s q last second third (operator c o p)
       → Tested (ready-at (operator-kind o) (start c) last second third) s q (start c) last second p
-  window-operator op-a h = window-a h
-  window-operator op-b h = window-b h
-  window-operator op-c h = window-c h
-  window-operator op-d h = window-d h
+  unfolding first-block after-two
+  window-operator op-a h = two-wanted op-a 0 (omega arith) (λ m A. refl) ready-a h
+  window-operator op-b h = two-wanted op-b 1 (omega arith) (λ m A. refl) ready-b h
+  window-operator op-c h = one-wanted op-c 2 (omega arith) (omega arith) (λ l B m A. refl) ready-c h
+  window-operator op-d h = one-wanted op-d 3 (omega arith) (omega arith) (λ l B m A. refl) ready-d h

@@ -1,5 +1,5 @@
 -- `scan`: the loop's invariant is `Scanning`. The measure is how many ports are ahead.
-use mathlib.Core.Path.{refl, ap}
+use mathlib.Core.Path.{_≡_, refl, ap}
 use mathlib.Core.Logic.{⊎-elim, ⊎-map}
 use native.Mathlib.Omega.{arith}
 use borrow.Author.Needs.{needs}
@@ -18,6 +18,9 @@ Inv-loop text memory outer first end third₀ second₀ last₀ at₀ third seco
 abbrev μ-loop : tie.MeasureT-loop
 μ-loop text memory outer first end third₀ second₀ last₀ at₀ third second last at =
     length (ahead (whole (outer .0) memory (first .0)) (outer .0) (end .0) (at .0))
+
+number : {p r : Port} → p ≡ r → p .0 ≡ r .0
+number e = ap (λ (p : Port). p .0) e
 
 close-requires : tie.Need-close-requires Inv-loop μ-loop
 close-requires c κs = search (needs, scan-small)
@@ -72,7 +75,7 @@ link-of-requires-2 c κs =
     let t = c .before .before .before .before .before .before in
     let l = t .before .before .before in
     let low = scan-low (l .loop .inv) (t .if1 .taken) in
-    (l .loop .inv .lent, ⊎-elim (λ w. omega (arith, ap (λ (p : Port). p .0) (w .2))) (λ w. omega (arith, ap (λ (p : Port). p .0) (w .1))) (c .if2 .came))
+    (l .loop .inv .lent, ⊎-elim (λ w. omega (arith, number (w .2))) (λ w. omega (arith, number (w .1))) (c .if2 .came))
 
 loop-less : tie.Need-loop-less Inv-loop μ-loop
 loop-less c =
@@ -80,7 +83,7 @@ loop-less c =
     let t = r .before .before .before in
     let l = t .before .before .before in
     let on = scan-past (l .loop .inv) (t .if1 .taken) _ refl _ (r .ready-at .ensures) (c .before .before .enum-told .given .1) in
-    on _ _ (⊎-map (λ w. (w .0 .taken, ap (λ (p : Port). p .0) (w .2))) (λ w. (w .0 .left, ap (λ (p : Port). p .0) (w .1))) (c .before .if2 .came)) (c .link-of2 .ensures) .1
+    on _ _ (⊎-map (λ w. (w .0 .taken, number (w .2))) (λ w. (w .0 .left, number (w .1))) (c .before .if2 .came)) (c .link-of2 .ensures) .1
 
 loop-again : tie.Need-loop-again Inv-loop μ-loop
 loop-again c =
@@ -88,7 +91,7 @@ loop-again c =
     let t = r .before .before .before in
     let l = t .before .before .before in
     let on = scan-past (l .loop .inv) (t .if1 .taken) _ refl _ (r .ready-at .ensures) (c .before .before .enum-told .given .1) in
-    on _ _ (⊎-map (λ w. (w .0 .taken, ap (λ (p : Port). p .0) (w .2))) (λ w. (w .0 .left, ap (λ (p : Port). p .0) (w .1))) (c .before .if2 .came)) (c .link-of2 .ensures) .0
+    on _ _ (⊎-map (λ w. (w .0 .taken, number (w .2))) (λ w. (w .0 .left, number (w .1))) (c .before .if2 .came)) (c .link-of2 .ensures) .0
 
 returns-2 : tie.Need-returns-2 Inv-loop μ-loop
 returns-2 c = search (needs, scan-none)
