@@ -259,7 +259,7 @@ module _ {L : Type 0} where
 
 -- No turn looks at a label.
 module _ {L M : Type 0} (f : L → M) where
-  retell : Turn L → Turn M
+  unfoldable pub retell : Turn L → Turn M
   retell (STOP e) = STOP e
   retell (GO q) = GO (relabel f q)
 
@@ -272,7 +272,7 @@ module _ {L M : Type 0} (f : L → M) where
       by-test true = refl
       by-test false = refl
 
-  ask-relabel : (n : ℕ) (p : Plan L) {t : Turn L} → ask n (next p) ≡ t → ask n (next (relabel f p)) ≡ retell t
+  pub ask-relabel : (n : ℕ) (p : Plan L) {t : Turn L} → ask n (next p) ≡ t → ask n (next (relabel f p)) ≡ retell t
   ask-relabel n p h = ap (ask n) (next-relabel f p) ∙ (ask-under n (next p) ∙ ap retell h)
 
   relabels : {n quota : ℕ} {p : Plan L} {e : Ending} {steps : ℕ} {q : Plan L} → Run n quota p e steps q →

@@ -1,0 +1,3 @@
+pub mod Looping
+pub mod Sizing
+pub mod Turning

@@ -1,0 +1,100 @@
+-- One turn, with the memory: what the hunt found says whether the run goes on, of every plan that the memory held.
+use Prim.Native.Nat.{ℕ, _≤_, _<_}
+use mathlib.Core.Path.{_≡_, refl, ap, sym, _∙_, subst}
+use mathlib.Core.Bool.{Bool, true, false, not}
+use mathlib.Core.Option.{Option, none, some}
+use mathlib.Core.List.{List}
+use native.Mathlib.Omega.{arith}
+use borrow.Author.Tests.{lt-leb}
+use Rattle.plan.specs.Options.{_else_, under}
+use Rattle.plan.specs.Plan.{Plan, cells}
+use Rattle.plan.specs.Rewriting.{next}
+use Rattle.plan.specs.Running.{STOP, GO, ask}
+use Rattle.plan.specs.declared.Ending.the-variants.{Done, Quota, Full}
+use Rattle.plan.proofs.Runs.{ask-go}
+use Rattle.memory.specs.Held.{HeldIn}
+use Rattle.memory.specs.declared.Held.{Held}
+use Rattle.hunt.specs.Frames.{Awaits, Frame, beyond, plug, top}
+use Rattle.hunt.specs.Hunting.{Finds, Huntable}
+use Rattle.hunt.specs.declared.Hunted.{Hunted}
+use Rattle.hunt.specs.declared.Hunted.the-variants.{Nothing, Ready}
+use Rattle.hunt.specs.declared.Spot.{Spot}
+use Rattle.rewrites.specs.Rules.{Rewritable, Rewrites, Rewritten}
+use Rattle.engine.specs.Running.{Countable, Runnable, Sized, Spotted, Turned}
+use Rattle.engine.specs.declared.Turn.the-variants.{Stopped, Went}
+
+-- the hunt begins at the outermost sequence, before which there is nothing
+from-the-front : (n : ℕ) (t : Plan ℕ) → Awaits n t n
+unfolding plug beyond under _else_
+from-the-front n t = record { frame = top; sequence = t; there = refl; cell = refl; first = go (next t) }
+  where
+    go : (x : Option (Plan ℕ)) → x ≡ under (plug top) x else beyond top t
+    go none = refl
+    go (some p) = refl
+
+module _ {text m : List ℕ} {h : Held} {size : ℕ} (k : Runnable text m h size) where
+  pub huntable : Huntable text m h (h .outer .0)
+  huntable = record { lent = k .lent; plan = k .plan; held = k .sized .held; awaits = from-the-front (h .outer .0) (k .plan) }
+
+-- the test of `!more`
+refused : (more : Bool) → not more ≡ true → more ≡ false
+refused true e = sym e
+refused false e = refl
+
+allowed : (more : Bool) → not more ≡ false → more ≡ true
+allowed true e = refl
+allowed false e = sym e
+
+-- what the hunt found
+module _ {text m : List ℕ} {h : Held} {size : ℕ} {r : Hunted} (finds : (t : Plan ℕ) → HeldIn text m h t → Finds r (h .outer .0) t) where
+  pub turn-done : r ≡ Nothing → (more : Bool) (t : Plan ℕ) → Sized text m h size t → Turned text m h more m (Stopped Done) t
+  unfolding ask
+  turn-done e more t s = (refl, rw (subst (λ x. Finds x (h .outer .0) t) e (finds t (s .held))))
+
+  module _ {spot : Spot} (e : r ≡ Ready spot) where
+    found : (t : Plan ℕ) → Sized text m h size t → Finds (Ready spot) (h .outer .0) t
+    found t s = subst (λ x. Finds x (h .outer .0) t) e (finds t (s .held))
+
+    spotted : (t : Plan ℕ) (s : Sized text m h size t) → Spotted text m h spot size (found t s .0) (found t s .1) (found t s .2)
+    spotted t s =
+        let (f, q, q′, is, stands, then-next) = found t s in
+        record { held = subst (HeldIn text m h) is (s .held); stands = stands; sized = s .sized ∙ ap cells is }
+
+    pub turn-countable : Runnable text m h size → Countable text m h spot size
+    turn-countable k =
+        let there = found (k .plan) (k .sized) in
+        record { lent = k .lent; frame = there .0; before = there .1; after = there .2; spotted = spotted (k .plan) (k .sized) }
+
+    -- the next plan's cells, as `size_after` counts them
+    module _ (after : ℕ) (counts : (f : Frame) (q q′ : Plan ℕ) → Spotted text m h spot size f q q′ → after ≡ cells (plug f q′)) where
+      is-next : (t : Plan ℕ) (s : Sized text m h size t) → (next t ≡ some (plug (found t s .0) (found t s .2))) × (after ≡ cells (plug (found t s .0) (found t s .2)))
+      is-next t s = (found t s .5, counts (found t s .0) (found t s .1) (found t s .2) (spotted t s))
+
+      pub turn-full : h .outer .0 < after → (more : Bool) (t : Plan ℕ) → Sized text m h size t → Turned text m h more m (Stopped Full) t
+      unfolding ask
+      turn-full over more t s =
+          let (is, many) = is-next t s in
+          (refl, rw (is, lt-leb (cells (plug (found t s .0) (found t s .2))) (h .outer .0) (omega arith)))
+
+      module _ (fits : after ≤ h .outer .0) where
+        goes : (t : Plan ℕ) (s : Sized text m h size t) → ask (h .outer .0) (next t) ≡ GO (plug (found t s .0) (found t s .2))
+        goes t s = let (is, many) = is-next t s in ask-go (h .outer .0) (next t) (plug (found t s .0) (found t s .2)) .1 (is, omega arith)
+
+        pub turn-quota : (more : Bool) → not more ≡ true → (t : Plan ℕ) → Sized text m h size t → Turned text m h more m (Stopped Quota) t
+        turn-quota more no-more t s = (refl, refused more no-more, (plug (found t s .0) (found t s .2), goes t s))
+
+        rewrites : (t : Plan ℕ) (s : Sized text m h size t) → Rewrites text m h spot (found t s .0) (found t s .1) (found t s .2)
+        rewrites t s =
+            let p = spotted t s in
+            record { held = p .held; stands = p .stands; room = let many = is-next t s .1 in omega arith }
+
+        pub turn-rewritable : Runnable text m h size → Rewritable text m h spot
+        turn-rewritable k =
+            let there = found (k .plan) (k .sized) in
+            record { lent = k .lent; frame = there .0; before = there .1; after = there .2; rewrites = rewrites (k .plan) (k .sized) }
+
+        pub turn-went : {m′ : List ℕ} {h′ : Held} (more : Bool) → not more ≡ false
+            → ((f : Frame) (q q′ : Plan ℕ) → Rewrites text m h spot f q q′ → Rewritten text m′ h′ (plug f q′))
+            → (t : Plan ℕ) → Sized text m h size t → Turned text m h more m′ (Went h′ after) t
+        turn-went more is-more made t s =
+            (allowed more is-more, (plug (found t s .0) (found t s .2), goes t s, made (found t s .0) (found t s .1) (found t s .2) (rewrites t s), is-next t s .1))
