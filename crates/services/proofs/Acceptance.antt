@@ -25,7 +25,7 @@ use Rattle.plan.specs.Services.{
 use Rattle.plan.specs.declared.Answer.{Answer}
 use Rattle.plan.specs.declared.Answer.the-variants.{Read, Refused}
 use Rattle.plan.specs.declared.Refusal.{Refusal}
-use Rattle.plan.specs.declared.Refusal.the-variants.{OutShort, TooLong}
+use Rattle.plan.specs.declared.Refusal.the-variants.{BadArena, OutShort, TooLong}
 use Rattle.plan.proofs.Answers.{write-fits, write-short}
 use Rattle.plan.proofs.ReadBack.{read-accepted}
 use Rattle.plan.proofs.Slots.{accepted-text}
@@ -34,16 +34,21 @@ use Rattle.text.specs.Tidy.{written}
 use Rattle.reader.specs.declared.Surveyed.{Surveyed}
 use Rattle.reader.specs.declared.Surveyed.the-variants.{Accepted, Refused as RefusedText}
 
-module _ (text : List ℕ) where
-  pub too-long : textLimit < length text → RefusedText TooLong ≡ surveyed (accept standard cellLimit text)
+module _ (n : ℕ) (text : List ℕ) where
+  pub too-long : textLimit < length text → RefusedText TooLong ≡ surveyed (accept standard n text)
   unfolding accept surveyed
   too-long h = rw (lt-ltb textLimit (length text) h)
 
-  pub short-enough : {s : Surveyed} → length text ≤ textLimit → s ≡ surveyed (read tokenLimit cellLimit text)
-      → s ≡ surveyed (accept standard cellLimit text)
-  unfolding accept
-  short-enough h e = rw (le-ltb textLimit (length text) h) e
+  pub bad-arena : length text ≤ textLimit → cellLimit < n → RefusedText BadArena ≡ surveyed (accept standard n text)
+  unfolding accept surveyed
+  bad-arena h g = rw (le-ltb textLimit (length text) h, lt-ltb cellLimit n g)
 
+  pub short-enough : {s : Surveyed} → length text ≤ textLimit → n ≤ cellLimit → s ≡ surveyed (read tokenLimit n text)
+      → s ≡ surveyed (accept standard n text)
+  unfolding accept
+  short-enough h g e = rw (le-ltb textLimit (length text) h, le-ltb cellLimit n g) e
+
+module _ (text : List ℕ) where
   module _ {s : Surveyed} (found : s ≡ surveyed (accept standard cellLimit text)) where
     reads-refused : {r : Refusal} → s ≡ RefusedText r → reads standard text ≡ REFUSES r
     unfolding reads as-read surveyed

@@ -1,7 +1,6 @@
 // The services of document 01. Each is public, asks nothing of its caller, and its contract is one definition for every
 // input.
 ghost use mathlib.Core.Path.{_≡_};
-ghost use Rattle.kinds.specs.Limits.{cellLimit};
 ghost use Rattle.plan.specs.Services.{accept, check, standard, tidy};
 ghost use Rattle.reader.specs.Counting.{surveyed};
 use kinds::Cell;
@@ -12,32 +11,39 @@ use reader::Surveyed;
 use reader::survey;
 use text::put_tidied;
 
-// Whether a text is acceptable to CHECK and TIDY, which lend no memory.
-fn look_over(text: &[u8]) -> Surveyed
-    ensures { λ r. ⌜ r ≡ surveyed (accept standard cellLimit (now (text .entry))) ⌝ }
+mod running;
+
+pub use running::run;
+
+// Whether a text is acceptable with so many cells lent.
+fn look_over(text: &[u8], lent: usize) -> Surveyed
+    ensures { λ r. ⌜ r ≡ surveyed (accept standard lent (now (text .entry))) ⌝ }
 {
     if Place::LIMIT < text.len() {
         return Surveyed::Refused(Refusal::TooLong);
     }
-    survey(text, Cell::LIMIT as u32)
+    if Cell::LIMIT < lent {
+        return Surveyed::Refused(Refusal::BadArena);
+    }
+    survey(text, lent as u32)
 }
 
-// CHECK.
+// CHECK lends no memory: its plans may have as many cells as any.
 pub fn check(text: &[u8]) -> Answer
     ensures { λ r. ⌜ r ≡ check standard (now (text .entry)) ⌝ }
 {
-    match look_over(text) {
+    match look_over(text, Cell::LIMIT) {
         Surveyed::Accepted { cells, length } => Answer::Read { cells, length },
         Surveyed::Refused(refusal) => Answer::Refused(refusal),
     }
 }
 
-// TIDY.
+// TIDY lends no memory either.
 pub fn tidy(text: &[u8], output: &mut [u8]) -> Answer
     ensures answer { λ r. ⌜ r ≡ tidy standard (now (text .entry)) (now (output .entry)) .answer ⌝ }
     ensures output { λ r. ⌜ now (output .exit) ≡ tidy standard (now (text .entry)) (now (output .entry)) .output ⌝ }
 {
-    match look_over(text) {
+    match look_over(text, Cell::LIMIT) {
         Surveyed::Refused(refusal) => Answer::Refused(refusal),
         Surveyed::Accepted { cells, length } => {
             if output.len() < length as usize {

@@ -1,0 +1,27 @@
+-- `print_plan`: 18, or the printed text in front of an output that is otherwise as it was.
+use borrow.Author.Needs.{needs}
+use Rattle.services.proofs.Ended.{prints-at-most, prints-in, writes-all, writes-short}
+use Rattle.services.proofs.running.print_plan.Statement.{statement}
+use Rattle.services.proofs.running.print_plan.Tie as tie
+
+printed-length-requires : tie.Need-printed-length-requires
+printed-length-requires c κs = search prints-at-most
+
+cast-if1 : tie.Need-cast-if1
+cast-if1 c = search needs
+
+returns : tie.Need-returns
+returns c = search (needs, writes-short)
+
+print-into-requires : tie.Need-print-into-requires
+print-into-requires c κs = search (needs, prints-in)
+
+same-length : tie.Need-same-length
+same-length c = search needs
+
+returns-2 : tie.Need-returns-2
+returns-2 c = search (needs, writes-all)
+
+pub print-plan-spec : {M : Type 1} → statement M
+print-plan-spec =
+    tie.close (tie.spec printed-length-requires cast-if1 returns print-into-requires same-length returns-2)

@@ -1,0 +1,34 @@
+-- What the parts of RUN promise each other.
+use Prim.Native.Nat.{ℕ, _≤_}
+use mathlib.Core.Path.{_≡_}
+use mathlib.Core.List.{List}
+use lib.ListN.{length}
+use Rattle.kinds.specs.Limits.{textLimit, tokenLimit}
+use Rattle.plan.specs.Plan.{Plan, cells, print}
+use Rattle.plan.specs.Reading.{PLAN, read}
+use Rattle.plan.specs.Services.{Outcome, write}
+use Rattle.plan.specs.declared.Answer.{Answer}
+use Rattle.memory.specs.Model.{Lent}
+use Rattle.memory.specs.Pieces.{printLimit}
+use Rattle.engine.specs.Running.{Sized}
+use Rattle.engine.specs.declared.Ended.{Ended}
+
+-- the answer and the output that belong to an outcome
+pub record Writes (o : Outcome) (out : List ℕ) (r : Answer) (out′ : List ℕ) : Type 0 where
+  pub answer : r ≡ write o out .answer
+  pub output : out′ ≡ write o out .output
+
+-- the memory holds the plan that a run ended with, and its printed text is none too long
+pub record Printable (text m : List ℕ) (e : Ended) : Type 0 where
+  pub lent : Lent (e .held .outer .0) m
+  pub plan : Plan ℕ
+  pub sized : Sized text m (e .held) (e .size) plan
+  pub fits : length (print plan) ≤ printLimit
+
+-- the text was accepted, with so many cells lent, as a plan that has so many
+pub record Acceptable (text m : List ℕ) (n size : ℕ) : Type 0 where
+  pub lent : Lent n m
+  pub short : length text ≤ textLimit
+  pub plan : Plan ℕ
+  pub reads : read tokenLimit n text ≡ PLAN plan
+  pub sized : size ≡ cells plan
