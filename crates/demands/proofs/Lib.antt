@@ -1,3 +1,4 @@
+pub mod Answered
 pub mod Cases
 pub mod Meanings
 pub mod Numbers

@@ -1,0 +1,164 @@
+-- Demand 1, sentence by sentence: every call is answered, bad text is refused by the table, and what a refusal leaves.
+-- The statements are about an answer's five numbers and what the call left, for all inputs, and stand in the order of the sentences.
+use Prim.Native.Nat.{ℕ, _≤_, _<_}
+use mathlib.Core.Path.{_≡_, refl, ap, sym, subst, _∙_}
+use mathlib.Core.Logic.{_↔_, _⊎_, inl, inr}
+use mathlib.Core.List.{List}
+use native.Mathlib.Omega.{arith}
+use lib.ListN.{length, length-replicate, getD, getD-replicate}
+use Rattle.kinds.specs.Limits.{cellLimit}
+use Rattle.plan.specs.declared.Answer.{Answer}
+use Rattle.plan.specs.declared.Answer.the-variants.{Refused}
+use Rattle.plan.specs.declared.Refusal.{Refusal}
+use Rattle.plan.specs.declared.Refusal.the-variants.{OutShort}
+use Rattle.plan.specs.Plan.{print}
+use Rattle.plan.specs.Refusals.{Refuses}
+use Rattle.plan.specs.Services.{check, cleared, numbers, run, standard, tidy}
+use Rattle.plan.proofs.Answers.{refuses-iff}
+use Rattle.plan.proofs.Refusals.{refused-injective}
+use Rattle.demands.specs.Calls.{Checks, Runs, Tidies}
+use Rattle.demands.specs.Table.{RunRefuses, TidyRefuses, row-18, rows-11-to-17}
+use Rattle.demands.specs.Words.{Bare, FULL, IsRefusal, READ, lent, refusal}
+use Rattle.demands.proofs.Cases.{
+  CheckCase,
+  RunCase,
+  TidyCase,
+  bad-text,
+  check-case,
+  ended,
+  is-read,
+  out-short,
+  run-case,
+  tidy-case,
+}
+use Rattle.demands.proofs.Meanings.{ends-same, reads-not-refused, reads-one}
+use Rattle.demands.proofs.Numbers.{ending-at-most, is-refusal, refusal-between, same-refusal}
+
+-- "Any text, quota, memory and output length gets an answer." The contracts ask nothing of the caller, and this is what meets them;
+pub every-check-answered : (text : List ℕ) → (r : Answer) × Checks text r
+every-check-answered text = (check standard text, record { answer = refl })
+
+pub every-tidy-answered : (text out : List ℕ) → (r : Answer) × (out′ : List ℕ) × Tidies text out r out′
+every-tidy-answered text out =
+    (tidy standard text out .answer, tidy standard text out .output, record { answer = refl; output = refl })
+
+pub every-run-answered : (text : List ℕ) (quota : ℕ) (memory out : List ℕ)
+    → (r : Answer) × (memory′ : List ℕ) × (out′ : List ℕ) × Runs text quota memory out r memory′ out′
+every-run-answered text quota memory out =
+    let w = run standard text quota (length memory) out in
+    (w .answer, cleared memory, w .output, record { answer = refl; output = refl; zeroed = refl })
+
+-- its number is one of the table: READ, or DONE, QUOTA or FULL, or a refusal's.
+pub check-number : {text : List ℕ} {r : Answer} → Checks text r → (numbers r .number ≡ READ) ⊎ IsRefusal r
+check-number {text} call = go (check-case call)
+  where
+    go : {r : Answer} → CheckCase text r → (numbers r .number ≡ READ) ⊎ IsRefusal r
+    go (bad-text {x} h) = inr (refusal-between x)
+    go (is-read h) = inl refl
+
+pub tidy-number : {text out : List ℕ} {r : Answer} {out′ : List ℕ} → Tidies text out r out′ → (numbers r .number ≡ READ) ⊎ IsRefusal r
+tidy-number {text} {out} call = go (tidy-case call)
+  where
+    go : {r : Answer} {out′ : List ℕ} → TidyCase text out r out′ → (numbers r .number ≡ READ) ⊎ IsRefusal r
+    go (bad-text {x} h) = inr (refusal-between x)
+    go (out-short {p} h short) = inr (refusal-between (OutShort (length (print p))))
+    go (is-read h fits) = inl refl
+
+pub run-number : {text : List ℕ} {quota : ℕ} {memory out : List ℕ} {r : Answer} {memory′ out′ : List ℕ}
+    → Runs text quota memory out r memory′ out′ → (numbers r .number ≤ FULL) ⊎ IsRefusal r
+run-number {text} {quota} {memory} {out} call = go (run-case call)
+  where
+    go : {r : Answer} {out′ : List ℕ} → RunCase (lent memory) quota text out r out′ → (numbers r .number ≤ FULL) ⊎ IsRefusal r
+    go (bad-text {x} h) = inr (refusal-between x)
+    go (out-short {q = q} h short) = inr (refusal-between (OutShort (length (print q))))
+    go (ended {e} h fits) = inl (ending-at-most e)
+
+-- "Bad text is refused with a number and a place;" each refusal exactly when its row of the table says, with that row's place.
+pub check-refused : {text : List ℕ} {r : Answer} → Checks text r → (x : Refusal) → Refuses standard cellLimit text x ↔ (numbers r ≡ refusal x)
+check-refused {text} {r} call x = (λ h. ap numbers (to (check-case call) h), λ h. from (check-case call) (same-refusal r x h))
+  where
+    to : {r : Answer} → CheckCase text r → Refuses standard cellLimit text x → r ≡ Refused x
+    to (bad-text h) row = ap Refused (refused-injective (sym h ∙ refuses-iff standard cellLimit text x .1 row))
+    to (is-read h) row = reads-not-refused h (refuses-iff standard cellLimit text x .1 row)
+
+    from : {r : Answer} → CheckCase text r → r ≡ Refused x → Refuses standard cellLimit text x
+    from (bad-text {x = y} h) e =
+        let same : y ≡ x = cc in
+        subst (Refuses standard cellLimit text) same (refuses-iff standard cellLimit text y .0 h)
+    from (is-read h) e = absurd (let z : _≡_ {A = ℕ} 0 1 = cc in omega arith)
+
+pub tidy-refused : {text out : List ℕ} {r : Answer} {out′ : List ℕ} → Tidies text out r out′
+    → (x : Refusal) → TidyRefuses text out x ↔ (numbers r ≡ refusal x)
+tidy-refused {text} {out} {r} call x = (λ h. ap numbers (to (tidy-case call) h), λ h. from (tidy-case call) (same-refusal r x h))
+  where
+    to : {r : Answer} {out′ : List ℕ} {x : Refusal} → TidyCase text out r out′ → TidyRefuses text out x → r ≡ Refused x
+    to (bad-text h) (rows-11-to-17 {x} row) = ap Refused (refused-injective (sym h ∙ refuses-iff standard cellLimit text x .1 row))
+    to (bad-text h) (row-18 g short) = reads-not-refused g h
+    to (out-short h short) (rows-11-to-17 {x} row) = reads-not-refused h (refuses-iff standard cellLimit text x .1 row)
+    to (out-short h short) (row-18 g short′) = ap (λ (p : Bare). Refused (OutShort (length (print p)))) (reads-one h g)
+    to (is-read h fits) (rows-11-to-17 {x} row) = reads-not-refused h (refuses-iff standard cellLimit text x .1 row)
+    to (is-read h fits) (row-18 g short) = absurd (omega (arith, ap (λ (p : Bare). length (print p)) (reads-one h g)))
+
+    from : {r : Answer} {out′ : List ℕ} → TidyCase text out r out′ → r ≡ Refused x → TidyRefuses text out x
+    from (bad-text {x = y} h) e =
+        let same : y ≡ x = cc in
+        subst (TidyRefuses text out) same (rows-11-to-17 (refuses-iff standard cellLimit text y .0 h))
+    from (out-short {p} h short) e =
+        let same : OutShort (length (print p)) ≡ x = cc in
+        subst (TidyRefuses text out) same (row-18 h short)
+    from (is-read h fits) e = absurd (let z : _≡_ {A = ℕ} 0 1 = cc in omega arith)
+
+pub run-refused : {text : List ℕ} {quota : ℕ} {memory out : List ℕ} {r : Answer} {memory′ out′ : List ℕ}
+    → Runs text quota memory out r memory′ out′ → (x : Refusal) → RunRefuses (lent memory) quota text out x ↔ (numbers r ≡ refusal x)
+run-refused {text} {quota} {memory} {out} {r} call x =
+    (λ h. ap numbers (to (run-case call) h), λ h. from (run-case call) (same-refusal r x h))
+  where
+    n : ℕ
+    n = lent memory
+
+    to : {r : Answer} {out′ : List ℕ} {x : Refusal} → RunCase n quota text out r out′ → RunRefuses n quota text out x → r ≡ Refused x
+    to (bad-text h) (rows-11-to-17 {x} row) = ap Refused (refused-injective (sym h ∙ refuses-iff standard n text x .1 row))
+    to (bad-text h) (row-18 g short) = reads-not-refused (g .reads) h
+    to (out-short h short) (rows-11-to-17 {x} row) = reads-not-refused (h .reads) (refuses-iff standard n text x .1 row)
+    to (out-short h short) (row-18 g short′) = ap (λ (q : Bare). Refused (OutShort (length (print q)))) (ends-same h g)
+    to (ended h fits) (rows-11-to-17 {x} row) = reads-not-refused (h .reads) (refuses-iff standard n text x .1 row)
+    to (ended h fits) (row-18 g short) = absurd (omega (arith, ap (λ (q : Bare). length (print q)) (ends-same h g)))
+
+    from : {r : Answer} {out′ : List ℕ} → RunCase n quota text out r out′ → r ≡ Refused x → RunRefuses n quota text out x
+    from (bad-text {x = y} h) e =
+        let same : y ≡ x = cc in
+        subst (RunRefuses n quota text out) same (rows-11-to-17 (refuses-iff standard n text y .0 h))
+    from (out-short {q = q} h short) e =
+        let same : OutShort (length (print q)) ≡ x = cc in
+        subst (RunRefuses n quota text out) same (row-18 h short)
+    from (ended h fits) e = absurd (let z : _≡_ {A = ℕ} 0 1 = cc in omega arith)
+
+-- "a refusal reports no steps," and no cells and no length;
+pub refusal-reports-no-steps : (r : Answer) → IsRefusal r → (numbers r .steps ≡ 0) × (numbers r .cells ≡ 0) × (numbers r .length ≡ 0)
+refusal-reports-no-steps r h = rw (is-refusal r h .1) (refl, refl, refl)
+
+-- "changes no output byte"
+pub tidy-refusal-changes-no-output-byte : {text out : List ℕ} {r : Answer} {out′ : List ℕ} → Tidies text out r out′ → IsRefusal r → out′ ≡ out
+tidy-refusal-changes-no-output-byte {text} {out} call h = go (tidy-case call) h
+  where
+    go : {r : Answer} {out′ : List ℕ} → TidyCase text out r out′ → IsRefusal r → out′ ≡ out
+    go (bad-text g) h = refl
+    go (out-short g short) h = refl
+    go (is-read g fits) h = absurd (omega arith)
+
+pub run-refusal-changes-no-output-byte : {text : List ℕ} {quota : ℕ} {memory out : List ℕ} {r : Answer} {memory′ out′ : List ℕ}
+    → Runs text quota memory out r memory′ out′ → IsRefusal r → out′ ≡ out
+run-refusal-changes-no-output-byte {text} {quota} {memory} {out} call h = go (run-case call) h
+  where
+    go : {r : Answer} {out′ : List ℕ} → RunCase (lent memory) quota text out r out′ → IsRefusal r → out′ ≡ out
+    go (bad-text g) h = refl
+    go (out-short g short) h = refl
+    go (ended {e} g fits) h = absurd (omega (arith, ending-at-most e))
+
+-- "and leaves the work memory zeroed, like every other call." As many numbers as before, and each of them 0.
+pub memory-zeroed : {text : List ℕ} {quota : ℕ} {memory out : List ℕ} {r : Answer} {memory′ out′ : List ℕ}
+    → Runs text quota memory out r memory′ out′
+    → (length memory′ ≡ length memory) × ((i other : ℕ) → i < length memory → getD memory′ i other ≡ 0)
+unfolding cleared
+memory-zeroed {memory = memory} call =
+    rw (call .zeroed) (length-replicate (length memory) 0, λ i other h. getD-replicate (length memory) i 0 other h)
