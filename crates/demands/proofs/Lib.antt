@@ -1,4 +1,5 @@
 pub mod Answered
 pub mod Cases
+pub mod Ended
 pub mod Meanings
 pub mod Numbers

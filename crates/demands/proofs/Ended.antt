@@ -1,0 +1,147 @@
+-- Demand 2, sentence by sentence. An unrefused run's plan is what the reported steps, rewrites in the fixed order, make of the plan
+-- that its text reads as; every statement is about the run's numbers, its texts and that plan.
+use Prim.Native.Nat.{ℕ, _≤_}
+use mathlib.Core.Path.{_≡_, refl, ap, sym, subst, _∙_}
+use mathlib.Core.Logic.{_↔_}
+use mathlib.Core.List.{List, _++_}
+use native.Mathlib.Omega.{arith}
+use lib.ListN.{length, drop}
+use lib.Seq.{take-append-seam}
+use Rattle.kinds.specs.Limits.{cellLimit}
+use Rattle.plan.specs.declared.Answer.{Answer}
+use Rattle.plan.specs.declared.Ending.{Ending}
+use Rattle.plan.specs.declared.Ending.the-variants.{Done, Quota, Full}
+use Rattle.plan.specs.declared.Refusal.the-variants.{OutShort}
+use Rattle.plan.specs.Plan.{cells, print}
+use Rattle.plan.specs.Running.{Leads}
+use Rattle.plan.specs.Services.{ending-number, numbers}
+use Rattle.plan.proofs.Rewrites.{finished-iff}
+use Rattle.plan.proofs.Runs.{Stops, run-quota-steps, run-steps, run-stops}
+use Rattle.demands.specs.Calls.{Checks, Runs, Tidies}
+use Rattle.demands.specs.Words.{
+  Bare,
+  DONE,
+  FULL,
+  NextFits,
+  NextHasMoreThan,
+  NoRuleApplies,
+  QUOTA,
+  Reads,
+  Rewritten,
+  Unrefused,
+  lent,
+  saved,
+}
+use Rattle.demands.proofs.Cases.{
+  CheckCase,
+  Ended,
+  TidyCase,
+  bad-text,
+  check-case,
+  ended-plan,
+  ended-rewritten,
+  ended-saved,
+  is-read,
+  out-short,
+  run-ended,
+  tidy-case,
+}
+use Rattle.demands.proofs.Meanings.{ends-sound, ends-way, reads-one, reads-sound, sound-back}
+use Rattle.demands.proofs.Numbers.{refusal-between, same-ending}
+
+module _ {text : List ℕ} {quota : ℕ} {memory out : List ℕ} {r : Answer} {memory′ out′ : List ℕ}
+    (call : Runs text quota memory out r memory′ out′) (unrefused : Unrefused r) where
+  run : Ended (lent memory) quota text out r out′
+  run = run-ended call unrefused
+
+  back : Reads (lent memory) (saved r out′) (run .result)
+  back = rw (ended-saved run) (sound-back (ends-sound (run .ends)))
+
+  -- "Reading, rewriting and printing are those of the four rules a, b, c, d of the Awelon Bytecode summary, in the fixed order of
+  -- document 01."
+  pub reads-rewrites-prints : (q : Bare) × Rewritten (lent memory) text (numbers r .steps) q × (saved r out′ ≡ print q)
+  reads-rewrites-prints = (run .result, ended-rewritten run, ended-saved run)
+
+  -- its plan: what the steps made of the plan that was read
+  module _ {q : Bare} (its-plan : Rewritten (lent memory) text (numbers r .steps) q) where
+    same : run .result ≡ q
+    same = ended-plan run its-plan
+
+    stops : (d : Ending) → (numbers r .number ≡ ending-number d) ↔ Stops (lent memory) d q
+    stops d =
+        let why = run-stops (lent memory) quota (run .ends .plan) (run .ends .ran) d in
+        let number = ap (λ (a : Answer). numbers a .number) (run .told) in (
+          λ h. subst (Stops (lent memory) d) same (why .0 (same-ending (run .ending) d (sym number ∙ h))),
+          λ h. number ∙ ap ending-number (why .1 (subst (Stops (lent memory) d) (sym same) h)),
+        )
+
+    -- "An unrefused run ends DONE exactly when no rule applies anywhere in its plan,"
+    pub done-exactly-when : (numbers r .number ≡ DONE) ↔ NoRuleApplies q
+    done-exactly-when = (λ h. finished-iff q .0 (stops Done .0 h), λ h. stops Done .1 (finished-iff q .1 h))
+
+    -- "FULL exactly when the next rewrite's result has more cells than were lent."
+    pub full-exactly-when : (numbers r .number ≡ FULL) ↔ NextHasMoreThan (lent memory) q
+    full-exactly-when = stops Full
+
+    -- and QUOTA in every other case
+    pub quota-exactly-when : (numbers r .number ≡ QUOTA) ↔ NextFits (lent memory) q
+    quota-exactly-when = stops Quota
+
+  -- "Steps reported are rewrites made,": so many lead from the plan of the run's text to the plan of the text that it printed,
+  pub steps-are-rewrites-made : {p q : Bare} → Reads (lent memory) text p → Reads (lent memory) (saved r out′) q → Leads (numbers r .steps) p q
+  steps-are-rewrites-made {p} {q} before after =
+      let made = ended-rewritten run in
+      let from : made .plan ≡ p = reads-one (made .reads) before in
+      let to : run .result ≡ q = reads-one back after in
+      subst (λ a. Leads (numbers r .steps) a q) from (subst (λ b. Leads (numbers r .steps) (made .plan) b) to (made .leads))
+
+  -- never more than the quota, and all of it where the answer is QUOTA;
+  pub steps-within-quota : (numbers r .steps ≤ quota) × (numbers r .number ≡ QUOTA → numbers r .steps ≡ quota)
+  steps-within-quota =
+      let steps = ap (λ (a : Answer). numbers a .steps) (run .told) in
+      let number = ap (λ (a : Answer). numbers a .number) (run .told) in (
+        rw steps (run-steps (lent memory) quota (run .ends .plan) (run .ends .ran)),
+        λ h. steps
+            ∙ run-quota-steps (lent memory) quota (run .ends .plan) (run .ends .ran) (same-ending (run .ending) Quota (sym number ∙ h)),
+      )
+
+  -- and every plan on the way had room, so none was passed that should have ended the run.
+  pub every-plan-had-room : {k : ℕ} {q : Bare} → k ≤ numbers r .steps → Rewritten (lent memory) text k q → cells q ≤ lent memory
+  every-plan-had-room {k} within h =
+      ends-way (run .ends) (subst (k ≤_) (ap (λ (a : Answer). numbers a .steps) (run .told)) within) h
+
+  module _ {q : Bare} (its-plan : Rewritten (lent memory) text (numbers r .steps) q) where
+    -- "and the printed text reads back as the same plan."
+    pub text-reads-back : Reads (lent memory) (saved r out′) q
+    text-reads-back = subst (λ p. Reads (lent memory) (saved r out′) p) (ended-plan run its-plan) back
+
+    -- document 01: "cells and length are those of the resulting plan and its printed text; the output holds that text first and its
+    -- other bytes are untouched"
+    pub cells-and-length : (numbers r .cells ≡ cells q) × (numbers r .length ≡ length (print q))
+    cells-and-length = rw (run .told, ended-plan run its-plan) (refl, refl)
+
+    pub text-first : out′ ≡ print q ++ drop (length (print q)) out
+    text-first = rw (← ended-plan run its-plan) (run .left)
+
+-- CHECK and TIDY read and print too: READ, "text accepted, finished or not".
+pub check-reads : {text : List ℕ} {r : Answer} → Checks text r → Unrefused r
+    → (p : Bare) × Reads cellLimit text p × (numbers r .cells ≡ cells p) × (numbers r .length ≡ length (print p))
+check-reads {text} call unrefused = go (check-case call) unrefused
+  where
+    go : {r : Answer} → CheckCase text r → Unrefused r
+        → (p : Bare) × Reads cellLimit text p × (numbers r .cells ≡ cells p) × (numbers r .length ≡ length (print p))
+    go (bad-text {x} h) u = absurd (omega (arith, refusal-between x .0))
+    go (is-read {p} h) u = (p, h, refl, refl)
+
+pub tidy-reads-prints : {text out : List ℕ} {r : Answer} {out′ : List ℕ} → Tidies text out r out′ → Unrefused r
+    → (p : Bare) × Reads cellLimit text p × (numbers r .cells ≡ cells p) × (numbers r .length ≡ length (print p))
+    × (out′ ≡ print p ++ drop (length (print p)) out) × Reads cellLimit (saved r out′) p
+tidy-reads-prints {text} {out} call unrefused = go (tidy-case call) unrefused
+  where
+    go : {r : Answer} {out′ : List ℕ} → TidyCase text out r out′ → Unrefused r
+        → (p : Bare) × Reads cellLimit text p × (numbers r .cells ≡ cells p) × (numbers r .length ≡ length (print p))
+        × (out′ ≡ print p ++ drop (length (print p)) out) × Reads cellLimit (saved r out′) p
+    go (bad-text {x} h) u = absurd (omega (arith, refusal-between x .0))
+    go (out-short {p} h short) u = absurd (omega (arith, refusal-between (OutShort (length (print p))) .0))
+    go (is-read {p} h fits) u =
+        (p, h, refl, refl, refl, rw (take-append-seam (print p) (drop (length (print p)) out)) (sound-back (reads-sound h)))
