@@ -3,3 +3,5 @@ pub mod Cases
 pub mod Ended
 pub mod Meanings
 pub mod Numbers
+pub mod SavedTexts
+pub mod WithoutC

@@ -1,0 +1,42 @@
+-- "An unrefused run of a plan without operator c is never FULL, and is DONE where the quota is at least the plan's cells, since every
+-- other rewrite makes it smaller." Document 01, about RUN.
+use Prim.Native.Nat.{ℕ, _≤_}
+use mathlib.Core.Path.{_≡_, ap, sym, subst, _∙_}
+use mathlib.Core.Logic.{_≢_}
+use mathlib.Core.List.{List}
+use Rattle.plan.specs.declared.Answer.{Answer}
+use Rattle.plan.specs.declared.Ending.the-variants.{Full}
+use Rattle.plan.specs.Plan.{WithoutC, cells}
+use Rattle.plan.specs.Services.{ending-number, numbers}
+use Rattle.plan.proofs.Runs.{without-c-done, without-c-not-full}
+use Rattle.demands.specs.Calls.{Runs}
+use Rattle.demands.specs.Words.{Bare, DONE, FULL, Reads, Unrefused, lent}
+use Rattle.demands.proofs.Cases.{Ended, run-ended}
+use Rattle.demands.proofs.Meanings.{reads-one, reads-sound, sound-cells}
+use Rattle.demands.proofs.Numbers.{same-ending}
+
+module _ {text : List ℕ} {quota : ℕ} {memory out : List ℕ} {r : Answer} {memory′ out′ : List ℕ}
+    (call : Runs text quota memory out r memory′ out′) (unrefused : Unrefused r)
+    {p : Bare} (reads : Reads (lent memory) text p) (plain : WithoutC p) where
+  run : Ended (lent memory) quota text out r out′
+  run = run-ended call unrefused
+
+  same : p ≡ run .ends .plan
+  same = reads-one reads (run .ends .reads)
+
+  number : numbers r .number ≡ ending-number (run .ending)
+  number = ap (λ (a : Answer). numbers a .number) (run .told)
+
+  room : cells (run .ends .plan) ≤ lent memory
+  room = sound-cells (reads-sound (run .ends .reads)) .0
+
+  pub without-c-never-full : numbers r .number ≢ FULL
+  without-c-never-full h =
+      without-c-not-full (lent memory) quota (run .ends .plan) (run .ends .ran) (subst WithoutC same plain) room
+      (same-ending (run .ending) Full (sym number ∙ h))
+
+  pub without-c-ends-done : cells p ≤ quota → numbers r .number ≡ DONE
+  without-c-ends-done enough =
+      number ∙ ap ending-number
+      (without-c-done (lent memory) quota (run .ends .plan) (run .ends .ran) (subst WithoutC same plain) room
+      (subst (λ q. cells q ≤ quota) same enough))
