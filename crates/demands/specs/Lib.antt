@@ -1,3 +1,4 @@
 pub mod Calls
+pub mod Slots
 pub mod Table
 pub mod Words

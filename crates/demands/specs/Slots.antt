@@ -1,0 +1,31 @@
+-- Slots as calls of RUN: the first reads the run's text and each other the text that the last one saved. Their memories are
+-- equally long, whatever they hold, and each output is long enough for its text: which it is exactly when the answer is not
+-- OUTSHORT, and always with 64 bytes for each cell lent.
+use Prim.Native.Nat.{ℕ, _+_}
+use mathlib.Core.Path.{_≡_}
+use mathlib.Core.Logic.{_≢_}
+use mathlib.Core.List.{List, [], _∷_}
+use lib.ListN.{length}
+use Rattle.plan.specs.declared.Answer.{Answer}
+use Rattle.plan.specs.Services.{numbers}
+use Rattle.demands.specs.Calls.{Runs}
+use Rattle.demands.specs.Words.{OUTSHORT, saved}
+
+-- one slot: a call of RUN with a memory of that length, its answer, and the text that it saved
+pub record Slot (memory-length : ℕ) (text : List ℕ) (quota : ℕ) (r : Answer) (left : List ℕ) : Type 0 where
+  pub memory : List ℕ
+  pub out : List ℕ
+  pub memory′ : List ℕ
+  pub out′ : List ℕ
+  pub call : Runs text quota memory out r memory′ out′
+  pub equal-memory : length memory ≡ memory-length
+  pub output-long-enough : numbers r .number ≢ OUTSHORT
+  pub saves : left ≡ saved r out′
+
+-- one or more slots, with these quotas: their steps added up, the last one's answer, and the text that it saved
+pub data Slots (memory-length : ℕ) : (text : List ℕ) (quota : ℕ) (quotas : List ℕ) (steps : ℕ) → Answer → (left : List ℕ) → Type 0 where
+  only : {text : List ℕ} {quota : ℕ} {r : Answer} {left : List ℕ}
+      → Slot memory-length text quota r left → Slots memory-length text quota [] (numbers r .steps) r left
+  first : {text : List ℕ} {quota : ℕ} {r : Answer} {between : List ℕ} {q : ℕ} {quotas : List ℕ} {steps : ℕ} {last : Answer} {left : List ℕ}
+      → Slot memory-length text quota r between → Slots memory-length between q quotas steps last left
+      → Slots memory-length text quota (q ∷ quotas) (numbers r .steps + steps) last left
