@@ -4,5 +4,6 @@ pub mod Ended
 pub mod Meanings
 pub mod MoreNeverChanges
 pub mod Numbers
+pub mod OneAnswer
 pub mod SavedTexts
 pub mod WithoutC

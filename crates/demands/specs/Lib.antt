@@ -1,4 +1,5 @@
 pub mod Calls
+pub mod Demanded
 pub mod Slots
 pub mod Table
 pub mod Words
