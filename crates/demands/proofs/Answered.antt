@@ -16,7 +16,7 @@ use Rattle.plan.specs.Refusals.{Refuses}
 use Rattle.plan.specs.Services.{check, cleared, numbers, run, standard, tidy}
 use Rattle.plan.proofs.Answers.{refuses-iff}
 use Rattle.plan.proofs.Refusals.{refused-injective}
-use Rattle.demands.specs.Calls.{Checks, Runs, Tidies}
+use Rattle.services.specs.Calls.{Checks, Runs, Tidies}
 use Rattle.demands.specs.Table.{RunRefuses, TidyRefuses, row-18, rows-11-to-17}
 use Rattle.demands.specs.Words.{Bare, FULL, IsRefusal, READ, lent, refusal}
 use Rattle.demands.proofs.Cases.{

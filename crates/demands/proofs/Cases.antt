@@ -38,7 +38,7 @@ use Rattle.plan.specs.Services.{
 use Rattle.plan.proofs.Plans.{cells-relabel, print-relabel}
 use Rattle.plan.proofs.Runs.{run-relabel}
 use Rattle.plan.proofs.Tests.{cond-cases}
-use Rattle.demands.specs.Calls.{Checks, Runs, Tidies}
+use Rattle.services.specs.Calls.{Checks, Runs, Tidies}
 use Rattle.demands.specs.Words.{Bare, Ends, OUTSHORT, Reads, Rewritten, Unrefused, lent, saved}
 use Rattle.demands.proofs.Meanings.{ends-one, ends-rewritten, ends-same, reads-not-refused, rewritten-one}
 use Rattle.demands.proofs.Numbers.{ending-at-most, refusal-between}

@@ -17,7 +17,7 @@ use Rattle.plan.specs.Running.{Leads}
 use Rattle.plan.specs.Services.{ending-number, numbers}
 use Rattle.plan.proofs.Rewrites.{finished-iff}
 use Rattle.plan.proofs.Runs.{Stops, run-quota-steps, run-steps, run-stops}
-use Rattle.demands.specs.Calls.{Checks, Runs, Tidies}
+use Rattle.services.specs.Calls.{Checks, Runs, Tidies}
 use Rattle.demands.specs.Words.{
   Bare,
   DONE,

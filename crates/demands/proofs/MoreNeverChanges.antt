@@ -15,7 +15,7 @@ use Rattle.plan.specs.Services.{GIVES, numbers, runs, standard}
 use Rattle.plan.specs.Slots.{after, next-slot, plus-steps, slots, total}
 use Rattle.plan.proofs.Runs.{more-never-changes}
 use Rattle.plan.proofs.Slots.{slots-end-as-one, standard-roomy}
-use Rattle.demands.specs.Calls.{Runs}
+use Rattle.services.specs.Calls.{Runs}
 use Rattle.demands.specs.Slots.{Slot, Slots, first, only}
 use Rattle.demands.specs.Words.{Bare, DONE, Ends, Reads, Unrefused, lent, saved}
 use Rattle.demands.proofs.Answered.{every-run-answered}

@@ -17,7 +17,7 @@ use Rattle.plan.specs.Rewriting.{next}
 use Rattle.plan.specs.Running.{Leads}
 use Rattle.plan.specs.Services.{cleared, numbers, run, standard}
 use Rattle.plan.proofs.Rewrites.{finished-iff}
-use Rattle.demands.specs.Calls.{Checks, Runs, Tidies}
+use Rattle.services.specs.Calls.{Checks, Runs, Tidies}
 use Rattle.demands.specs.Demanded.{AsDemanded}
 use Rattle.demands.specs.Words.{Bare, NextFits, NextHasMoreThan, NoRuleApplies, Rewritten, Unrefused, lent, saved}
 use Rattle.demands.proofs.Ended.{

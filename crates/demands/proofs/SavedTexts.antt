@@ -13,7 +13,7 @@ use Rattle.plan.specs.Plan.{cells, print}
 use Rattle.plan.specs.Refusals.{Refuses, bad-arena, bad-byte, bad-text as bad-row, bad-token, fault, overfull, too-long, unclosed, unmatched}
 use Rattle.plan.specs.Services.{numbers, refusal-number, standard}
 use Rattle.plan.proofs.Answers.{refuses-iff}
-use Rattle.demands.specs.Calls.{Checks, Runs, Tidies}
+use Rattle.services.specs.Calls.{Checks, Runs, Tidies}
 use Rattle.demands.specs.Words.{OUTSHORT, OVERFULL, Reads, TOOLONG, Unrefused, lent, saved}
 use Rattle.demands.proofs.Cases.{
   CheckCase,

@@ -9,7 +9,7 @@ use Rattle.plan.specs.declared.Ending.the-variants.{Full}
 use Rattle.plan.specs.Plan.{WithoutC, cells}
 use Rattle.plan.specs.Services.{ending-number, numbers}
 use Rattle.plan.proofs.Runs.{without-c-done, without-c-not-full}
-use Rattle.demands.specs.Calls.{Runs}
+use Rattle.services.specs.Calls.{Runs}
 use Rattle.demands.specs.Words.{Bare, DONE, FULL, Reads, Unrefused, lent}
 use Rattle.demands.proofs.Cases.{Ended, run-ended}
 use Rattle.demands.proofs.Meanings.{reads-one, reads-sound, sound-cells}

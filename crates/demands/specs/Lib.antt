@@ -1,4 +1,3 @@
-pub mod Calls
 pub mod Demanded
 pub mod Slots
 pub mod Table

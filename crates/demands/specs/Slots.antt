@@ -8,7 +8,7 @@ use mathlib.Core.List.{List, [], _∷_}
 use lib.ListN.{length}
 use Rattle.plan.specs.declared.Answer.{Answer}
 use Rattle.plan.specs.Services.{numbers}
-use Rattle.demands.specs.Calls.{Runs}
+use Rattle.services.specs.Calls.{Runs}
 use Rattle.demands.specs.Words.{OUTSHORT, saved}
 
 -- one slot: a call of RUN with a memory of that length, its answer, and the text that it saved

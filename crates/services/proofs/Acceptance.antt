@@ -31,6 +31,7 @@ use Rattle.plan.proofs.ReadBack.{read-accepted}
 use Rattle.plan.proofs.Slots.{accepted-text}
 use Rattle.reader.specs.Counting.{surveyed}
 use Rattle.text.specs.Tidy.{written}
+use Rattle.services.specs.Calls.{Checks, Tidies}
 use Rattle.reader.specs.declared.Surveyed.{Surveyed}
 use Rattle.reader.specs.declared.Surveyed.the-variants.{Accepted, Refused as RefusedText}
 
@@ -72,18 +73,18 @@ module _ (text : List ℕ) where
             let sized : length (print p) ≡ l = cc in
             (ap₂ GIVES (ap₂ Read counted sized) printed, ap length (sym printed) ∙ sized)
 
-    pub check-refused : {r : Refusal} → s ≡ RefusedText r → Refused r ≡ check standard text
+    pub check-refused : {r : Refusal} → s ≡ RefusedText r → Checks text (Refused r)
     unfolding check answer-of
-    check-refused e = rw (reads-refused e)
+    check-refused e = record { answer = rw (reads-refused e) }
 
-    pub check-accepted : {c l : ℕ} → s ≡ Accepted c l → Read c l ≡ check standard text
+    pub check-accepted : {c l : ℕ} → s ≡ Accepted c l → Checks text (Read c l)
     unfolding check answer-of
-    check-accepted e = rw (reads-accepted e .0)
+    check-accepted e = record { answer = rw (reads-accepted e .0) }
 
     pub tidy-refused : {r : Refusal} (out : List ℕ) → s ≡ RefusedText r
-        → (Refused r ≡ tidy standard text out .answer) × (out ≡ tidy standard text out .output)
+        → Tidies text out (Refused r) out
     unfolding tidy write
-    tidy-refused out e = rw (reads-refused e) (refl, refl)
+    tidy-refused out e = record { answer = rw (reads-refused e); output = rw (reads-refused e) }
 
     -- a text that is found acceptable, and its length without blanks
     module _ {c l : ℕ} (out : List ℕ) (e : s ≡ Accepted c l) where
@@ -91,16 +92,16 @@ module _ (text : List ℕ) where
       tidy-fits h = omega (arith, reads-accepted e .1)
 
       pub tidy-short : length out < l
-          → (Refused (OutShort l) ≡ tidy standard text out .answer) × (out ≡ tidy standard text out .output)
+          → Tidies text out (Refused (OutShort l)) out
       unfolding tidy
       tidy-short h =
           let r = reads-accepted e in
-          rw (r .0, write-short (Read c l) (without-blanks false text) out (omega (arith, r .1)))
-          (ap (λ k. Refused (OutShort k)) (sym (r .1)), refl)
+          let w = write-short (Read c l) (without-blanks false text) out (omega (arith, r .1)) in
+          record { answer = rw (r .0, w) (ap (λ k. Refused (OutShort k)) (sym (r .1))); output = rw (r .0, w) }
 
-      pub tidy-written : l ≤ length out
-          → (Read c l ≡ tidy standard text out .answer) × (written (without-blanks false text) out ≡ tidy standard text out .output)
+      pub tidy-written : {out′ : List ℕ} → l ≤ length out → out′ ≡ written (without-blanks false text) out → Tidies text out (Read c l) out′
       unfolding tidy
-      tidy-written h =
+      tidy-written h is =
           let r = reads-accepted e in
-          rw (r .0, write-fits (Read c l) (without-blanks false text) out (omega (arith, r .1))) (refl, refl)
+          let w = write-fits (Read c l) (without-blanks false text) out (omega (arith, r .1)) in
+          record { answer = rw (r .0, w); output = rw (r .0, w) is }

@@ -32,6 +32,7 @@ use Rattle.memory.specs.declared.Held.{Held}
 use Rattle.memory.proofs.Whole.{lent-kept}
 use Rattle.engine.specs.Running.{RanAs, Runnable, Sized}
 use Rattle.engine.specs.declared.Ended.{Ended}
+use Rattle.services.specs.Calls.{Runs}
 use Rattle.services.specs.Writing.{Acceptable, Printable, Writes}
 
 -- printing
@@ -199,11 +200,8 @@ module _ (text m : List ℕ) {s : Surveyed} (found : s ≡ surveyed (accept stan
           (subst (λ n. Writes (run-read n quota (read tokenLimit n text)) out r out′) is w)
 
 -- the whole service
-pub ran-answer : (text : List ℕ) (quota long : ℕ) (out out′ : List ℕ) (r : Answer) → Writes (runs standard (long / 4) quota text) out r out′
-    → (r ≡ run standard text quota long out .answer) × (out′ ≡ run standard text quota long out .output)
-unfolding run
-ran-answer text quota long out out′ r w = (w .answer, w .output)
-
-pub cleared-same : (m m₁ m₂ : List ℕ) → length m₁ ≡ length m → m₂ ≡ cleared m₁ → m₂ ≡ cleared m
-unfolding cleared
-cleared-same m m₁ m₂ long e = e ∙ ap (λ k. replicate k 0) long
+pub ran-call : (text : List ℕ) (quota : ℕ) (memory memory₁ memory₂ out out′ : List ℕ) (r : Answer) → Writes (runs standard (length memory / 4) quota text) out r out′
+    → length memory₁ ≡ length memory → memory₂ ≡ cleared memory₁ → Runs text quota memory out r memory₂ out′
+unfolding run cleared
+ran-call text quota memory memory₁ memory₂ out out′ r w long e =
+    record { answer = w .answer; output = w .output; zeroed = e ∙ ap (λ k. replicate k 0) long }

@@ -1,8 +1,9 @@
-// The services of document 01. Each is public, asks nothing of its caller, and its contract is one definition for every
-// input.
+// The services of document 01. Each is public, asks nothing of its caller, and its contract says for every input what the call
+// answers and leaves (specs/Calls.antt).
 ghost use mathlib.Core.Path.{_≡_};
-ghost use Rattle.plan.specs.Services.{accept, check, standard, tidy};
+ghost use Rattle.plan.specs.Services.{accept, standard};
 ghost use Rattle.reader.specs.Counting.{surveyed};
+ghost use Rattle.services.specs.Calls.{Checks, Tidies};
 use kinds::Cell;
 use kinds::Place;
 use plan::Answer;
@@ -30,7 +31,7 @@ fn look_over(text: &[u8], lent: usize) -> Surveyed
 
 // CHECK lends no memory: its plans may have as many cells as any.
 pub fn check(text: &[u8]) -> Answer
-    ensures { λ r. ⌜ r ≡ check standard (now (text .entry)) ⌝ }
+    ensures { λ r. ⌜ Checks (now (text .entry)) r ⌝ }
 {
     match look_over(text, Cell::LIMIT) {
         Surveyed::Accepted { cells, length } => Answer::Read { cells, length },
@@ -40,8 +41,7 @@ pub fn check(text: &[u8]) -> Answer
 
 // TIDY lends no memory either.
 pub fn tidy(text: &[u8], output: &mut [u8]) -> Answer
-    ensures answer { λ r. ⌜ r ≡ tidy standard (now (text .entry)) (now (output .entry)) .answer ⌝ }
-    ensures output { λ r. ⌜ now (output .exit) ≡ tidy standard (now (text .entry)) (now (output .entry)) .output ⌝ }
+    ensures { λ r. ⌜ Tidies (now (text .entry)) (now (output .entry)) r (now (output .exit)) ⌝ }
 {
     match look_over(text, Cell::LIMIT) {
         Surveyed::Refused(refusal) => Answer::Refused(refusal),

@@ -7,8 +7,9 @@ ghost use Rattle.kinds.specs.Limits.{tokenLimit};
 ghost use Rattle.plan.specs.Plan.{Plan};
 ghost use Rattle.plan.specs.Reading.{read};
 ghost use Rattle.plan.specs.Running.{RAN};
-ghost use Rattle.plan.specs.Services.{as-run, cleared, run, run-read, runs, standard};
+ghost use Rattle.plan.specs.Services.{as-run, run-read, runs, standard};
 ghost use Rattle.engine.specs.Running.{Sized};
+ghost use Rattle.services.specs.Calls.{Runs};
 ghost use Rattle.services.specs.Writing.{Acceptable, Printable, Writes};
 use engine::Ended;
 use kinds::Cell;
@@ -73,9 +74,7 @@ fn run_uncleared(text: &[u8], quota: u32, memory: &mut [u32], output: &mut [u8])
 }
 
 pub fn run(text: &[u8], quota: u32, memory: &mut [u32], output: &mut [u8]) -> Answer
-    ensures answer { λ r. ⌜ r ≡ run standard (now (text .entry)) quota (length (now (memory .entry))) (now (output .entry)) .answer ⌝ }
-    ensures output { λ r. ⌜ now (output .exit) ≡ run standard (now (text .entry)) quota (length (now (memory .entry))) (now (output .entry)) .output ⌝ }
-    ensures memory { λ r. ⌜ now (memory .exit) ≡ cleared (now (memory .entry)) ⌝ }
+    ensures { λ r. ⌜ Runs (now (text .entry)) quota (now (memory .entry)) (now (output .entry)) r (now (memory .exit)) (now (output .exit)) ⌝ }
 {
     let answer = run_uncleared(text, quota, memory, output);
     clear(memory);

@@ -1,5 +1,4 @@
 -- `tidy`: a refusal, 18, or the text without its blanks in front of an output that is otherwise as it was.
-use mathlib.Core.Path.{_∙_}
 use borrow.Author.Needs.{needs}
 use Rattle.services.proofs.Acceptance.{tidy-fits, tidy-refused, tidy-short, tidy-written}
 use Rattle.services.proofs.tidy.Statement.{statement}
@@ -37,8 +36,7 @@ returns-3 c =
     let p = c .before .before in
     let e = p .before .before in
     let k = e .before .before in
-    let w = tidy-written _ (k .before .before .look-over .ensures) _ (k .cells .given .1) (e .if1 .left) in
-    (w .0, p .put-tidied .ensures ∙ w .1)
+    tidy-written _ (k .before .before .look-over .ensures) _ (k .cells .given .1) (e .if1 .left) (p .put-tidied .ensures)
 
 pub tidy-spec : {M : Type 1} → statement M
 tidy-spec =

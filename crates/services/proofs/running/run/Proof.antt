@@ -1,6 +1,6 @@
 -- `run`: all but the clearing, then the clearing.
 use borrow.Author.Needs.{needs}
-use Rattle.services.proofs.Ended.{cleared-same, ran-answer}
+use Rattle.services.proofs.Ended.{ran-call}
 use Rattle.services.proofs.running.run.Statement.{statement}
 use Rattle.services.proofs.running.run.Tie as tie
 
@@ -19,8 +19,7 @@ same-length-2 c = search needs
 returns : tie.Need-returns
 returns c =
     let r = c .before .before .before .before .before .before .before .before .run-uncleared .ensures in
-    let written = ran-answer _ _ _ _ _ _ (r .0) in
-    (written .0, (written .1, cleared-same _ _ _ (r .1) (c .before .before .clear .ensures)))
+    ran-call _ _ _ _ _ _ _ _ (r .0) (r .1) (c .before .before .clear .ensures)
 
 pub run-spec : {M : Type 1} → statement M
 run-spec = tie.close (tie.spec run-uncleared-requires clear-requires same-length same-length-2 returns)

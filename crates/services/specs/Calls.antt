@@ -1,4 +1,4 @@
--- What a call of each service did, as its contract says it and no more: the demands are proved of these records alone, so they
+-- What a call of each service did: the contracts say this and no more, and the demands are proved of these records alone, so they
 -- hold of any code that meets the contracts. First stand the inputs, then the answer and what the call left.
 use Prim.Native.Nat.{ℕ}
 use mathlib.Core.Path.{_≡_}
