@@ -4,6 +4,7 @@ use io::print_decimal;
 use io::write_all;
 use kinds::Cell;
 use kinds::Place;
+use lending::all_zero;
 use libc::STDOUT_FILENO;
 use loader::build_plan;
 use memory::clear;
@@ -41,18 +42,6 @@ fn print_back(text: &[u8], lent: &mut [u32], output: &mut [u8]) -> Back {
     print_into(text, lent, held, output);
     clear(lent);
     Back::Printed(length as usize)
-}
-
-// Whether every number is 0.
-fn all_zero(numbers: &[u32]) -> bool {
-    let mut at = 0;
-    while at < numbers.len() {
-        if numbers[at] != 0 {
-            return false;
-        }
-        at += 1;
-    }
-    true
 }
 
 // A long text is told by its length alone.

@@ -1,15 +1,15 @@
 -- `all_zero`: the loop comes nearer to the end with each turn.
 use Prim.Native.Nat.{_-_, _≤_}
-use borrow.Author.Needs.{needs}
 use lib.ListN.{length}
-use Rattle.printback.proofs.all_zero.Statement.{statement}
-use Rattle.printback.proofs.all_zero.Tie as tie
+use borrow.Author.Needs.{needs}
+use Rattle.lending.proofs.all_zero.Statement.{statement}
+use Rattle.lending.proofs.all_zero.Tie as tie
 
 abbrev Inv-loop : tie.InvT-loop
-Inv-loop numbers at₀ at = (at ≤ length numbers)
+Inv-loop memory at₀ at = (at ≤ length memory)
 
 abbrev μ-loop : tie.MeasureT-loop
-μ-loop numbers at₀ at = length numbers - at
+μ-loop memory at₀ at = length memory - at
 
 loop-holds : tie.Need-loop-holds Inv-loop μ-loop
 loop-holds c = search needs
