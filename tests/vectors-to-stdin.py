@@ -14,7 +14,7 @@ reader serves all of them:
 
     KIND QUOTA MEMLEN OUTLEN NUMBER STEPS CELLS LENGTH PLACE TEXT OUT
 
-Fields are parted by one SP, and the last is ended by LF. KIND is 1 for check and 2 for tidy; 3 is kept for run. What a
+Fields are parted by one SP, and the last is ended by LF. KIND is 1 for check, 2 for tidy and 3 for run. What a
 kind has not, its line has as 0. Numbers are decimal. TEXT and OUT are bytes: the number of their runs, then for each run
 two fields, its LENGTH in bytes and its pattern in hex, which is repeated until LENGTH bytes are filled. No bytes are `0`.
 So `5b*3+5d` of base.txt is `2 3 5b 1 5d`, and `5b5d*2` is `1 4 5b5d`.
@@ -22,15 +22,9 @@ So `5b*3+5d` of base.txt is `2 3 5b 1 5d`, and `5b5d*2` is `1 4 5b5d`.
 
 import sys
 
-KINDS = {"check": 1, "tidy": 2}
+from base_form import runs
 
-
-def runs(field):
-    """The runs of a field of base.txt: each a pattern in hex and how often it stands there."""
-    if field == "-":
-        return []
-    parted = (run.partition("*") for run in field.split("+"))
-    return [(pattern, int(times) if star else 1) for pattern, star, times in parted]
+KINDS = {"check": 1, "tidy": 2, "run": 3}
 
 
 def bytes_form(field):

@@ -179,7 +179,7 @@ fn repeat(room: &mut [u8], width: usize) {
 }
 
 // Fills the room with the pattern that begins at a place, as often as it takes.
-pub fn fill(line: &[u8], from: usize, room: &mut [u8]) -> Field {
+fn fill(line: &[u8], from: usize, room: &mut [u8]) -> Field {
     let pattern = put_pattern(line, from, room);
     repeat(room, pattern.value);
     pattern

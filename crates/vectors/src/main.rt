@@ -1,13 +1,14 @@
-// Runs CHECK and TIDY on each case of standard input, and says how many do not answer or write what the case expects.
+// Runs CHECK, TIDY and RUN on each case of standard input, and says how many do not answer or write what the case expects,
+// and how many runs leave a number of the memory that is not 0 or change a byte of the output past the text.
 //
 // A case is a line, made by tests/vectors-to-stdin.py:
 //
 //     KIND QUOTA MEMLEN OUTLEN NUMBER STEPS CELLS LENGTH PLACE TEXT OUT
 //
-// Fields are parted by one SP, and the last is ended by LF. KIND is 1 for CHECK and 2 for TIDY; 3 is kept for RUN. What
-// a kind has not, its line has as 0. Numbers are decimal. TEXT, what the service is given, and OUT, what it is to
-// write, are bytes: the number of their runs, then for each run its LENGTH in bytes and its pattern in hex, which is
-// repeated until LENGTH bytes are filled. So `2 3 5b 1 5d` is `[[[]`, and `0` is no bytes.
+// Fields are parted by one SP, and the last is ended by LF. KIND is 1 for CHECK, 2 for TIDY and 3 for RUN. What a
+// kind has not, its line has as 0. Numbers are decimal. TEXT, what the service is given, and OUT, what it is to write,
+// are bytes: the number of their runs, then for each run its LENGTH in bytes and its pattern in hex, which is repeated
+// until LENGTH bytes are filled. So `2 3 5b 1 5d` is `[[[]`, and `0` is no bytes.
 mod form;
 mod report;
 
@@ -17,15 +18,19 @@ use bytes::scan::find;
 use check::same;
 use form::Case;
 use form::expand;
-use form::fill;
 use kinds::Cell;
 use kinds::Place;
 use kinds::Token;
+use lending::all_zero;
+use lending::fill_memory;
+use lending::fill_output;
+use lending::untouched;
 use libc::STDIN_FILENO;
 use libc::STDOUT_FILENO;
 use plan::Answer;
 use report::Outcome;
 use report::Report;
+use report::Run;
 
 // Room for all of the input, and more.
 const INPUT: usize = 2_097_152;
@@ -36,15 +41,17 @@ const TEXT: usize = Place::LIMIT + 1;
 // The longest printed text: cells that are all tokens, each as long as may be.
 const OUTPUT: usize = Token::LIMIT * Cell::LIMIT;
 
+// More numbers than a run may be lent, for the cases that are BADARENA.
+const MEMORY: usize = 100_000;
+
 const CHECK: usize = 1;
 
 const TIDY: usize = 2;
 
-// Fills an output with the byte 255 before a call. No printed text has it, since UTF-8 has it nowhere, so a byte that
-// was left is never taken for one that was written.
-fn mark(output: &mut [u8]) {
-    fill(b"ff\n", 0, output);
-}
+const RUN: usize = 3;
+
+// The largest quota that a call takes.
+const QUOTA: usize = 4_294_967_295;
 
 fn wide(number: u32) -> usize {
     number as usize
@@ -61,9 +68,9 @@ fn is_expected(answer: Answer, case: Case) -> bool {
 }
 
 // Whether TIDY answers and writes what a case expects. What the output is to become was made beside it, so that one
-// comparison holds each byte to the text expected or to the marker.
+// comparison holds each byte to the text expected or to what the output was filled with.
 fn tidies(case: Case, text: &[u8], output: &mut [u8], expected: &[u8]) -> bool {
-    mark(output);
+    fill_output(output);
     let answer = services::tidy(text, output);
     if is_expected(answer, case) {
         return same(output, expected);
@@ -71,12 +78,42 @@ fn tidies(case: Case, text: &[u8], output: &mut [u8], expected: &[u8]) -> bool {
     false
 }
 
+// What comes of a run.
+fn runs(
+    case: Case,
+    text: &[u8],
+    memory: &mut [u32],
+    output: &mut [u8],
+    expected: &[u8],
+) -> Outcome {
+    let quota = case.quota;
+    let length = case.length;
+    if QUOTA < quota {
+        return Outcome::Malformed;
+    }
+    fill_memory(memory);
+    fill_output(output);
+    let answer = services::run(text, quota as u32, memory, output);
+    Outcome::Ran(Run {
+        as_expected: is_expected(answer, case) && same(output, expected),
+        memory_zero: all_zero(memory),
+        rest_untouched: untouched(output, length),
+    })
+}
+
 // Calls the service of a case.
-fn call(case: Case, text: &[u8], output: &mut [u8], expected: &[u8]) -> Outcome {
+fn call(
+    case: Case,
+    text: &[u8],
+    memory: &mut [u32],
+    output: &mut [u8],
+    expected: &[u8],
+) -> Outcome {
     let kind = case.kind;
     match kind {
         CHECK => Outcome::Checked(is_expected(services::check(text), case)),
         TIDY => Outcome::Tidied(tidies(case, text, output, expected)),
+        RUN => runs(case, text, memory, output, expected),
         _ => Outcome::Malformed,
     }
 }
@@ -86,35 +123,47 @@ fn compare(
     line: &[u8],
     case: Case,
     text: &mut [u8],
+    memory: &mut [u32],
     output: &mut [u8],
     expected: &mut [u8],
 ) -> Outcome {
-    mark(expected);
+    fill_output(expected);
     let given = expand(line, case.next, text);
     let written = expand(line, given.next, expected);
     if written.next != line.len() {
         return Outcome::Malformed;
     }
     let length = given.value;
-    call(case, &text[0..length], output, expected)
+    call(case, &text[0..length], memory, output, expected)
 }
 
-// Runs the case of a line, with as much of the output lent as it says.
-fn run_case(line: &[u8], text: &mut [u8], output: &mut [u8], expected: &mut [u8]) -> Outcome {
+// Runs the case of a line, with as much of the memory and of the output lent as it says.
+fn run_case(
+    line: &[u8],
+    text: &mut [u8],
+    memory: &mut [u32],
+    output: &mut [u8],
+    expected: &mut [u8],
+) -> Outcome {
     let case = Case::read(line);
-    let lent = case.output;
-    if output.len() < lent {
+    let numbers = case.memory;
+    let bytes = case.output;
+    if memory.len() < numbers {
         return Outcome::Malformed;
     }
-    if expected.len() < lent {
+    if output.len() < bytes {
+        return Outcome::Malformed;
+    }
+    if expected.len() < bytes {
         return Outcome::Malformed;
     }
     compare(
         line,
         case,
         text,
-        &mut output[0..lent],
-        &mut expected[0..lent],
+        &mut memory[0..numbers],
+        &mut output[0..bytes],
+        &mut expected[0..bytes],
     )
 }
 
@@ -130,12 +179,18 @@ fn past_line(input: &[u8], at: usize) -> usize
     end
 }
 
-fn run_cases(input: &[u8], text: &mut [u8], output: &mut [u8], expected: &mut [u8]) -> Report {
+fn run_cases(
+    input: &[u8],
+    text: &mut [u8],
+    memory: &mut [u32],
+    output: &mut [u8],
+    expected: &mut [u8],
+) -> Report {
     let mut report = Report::new();
     let mut at = 0;
     while at < input.len() {
         let next = past_line(input, at);
-        let outcome = run_case(&input[at..next], text, output, expected);
+        let outcome = run_case(&input[at..next], text, memory, output, expected);
         report = report.after(outcome);
         at = next;
     }
@@ -143,13 +198,19 @@ fn run_cases(input: &[u8], text: &mut [u8], output: &mut [u8], expected: &mut [u
 }
 
 // An input that fills its room may go on, so it is not run.
-fn run_input(input: &mut [u8], text: &mut [u8], output: &mut [u8], expected: &mut [u8]) {
+fn run_input(
+    input: &mut [u8],
+    text: &mut [u8],
+    memory: &mut [u32],
+    output: &mut [u8],
+    expected: &mut [u8],
+) {
     let read = io::read_full(STDIN_FILENO, input);
     if input.len() <= read {
         io::write_all(STDOUT_FILENO, b"input too long\n");
         return;
     }
-    let report = run_cases(&input[0..read], text, output, expected);
+    let report = run_cases(&input[0..read], text, memory, output, expected);
     report.print();
 }
 
@@ -158,16 +219,24 @@ fn run_input(input: &mut [u8], text: &mut [u8], output: &mut [u8], expected: &mu
 fn lend(
     input: &mut [u8; INPUT],
     text: &mut [u8; TEXT],
+    memory: &mut [u32; MEMORY],
     output: &mut [u8; OUTPUT],
     expected: &mut [u8; OUTPUT],
 ) {
-    run_input(input, text, output, expected);
+    run_input(input, text, memory, output, expected);
 }
 
 fn main() {
     let mut input = [0u8; INPUT];
     let mut text = [0u8; TEXT];
+    let mut memory = [0u32; MEMORY];
     let mut output = [0u8; OUTPUT];
     let mut expected = [0u8; OUTPUT];
-    lend(&mut input, &mut text, &mut output, &mut expected);
+    lend(
+        &mut input,
+        &mut text,
+        &mut memory,
+        &mut output,
+        &mut expected,
+    );
 }

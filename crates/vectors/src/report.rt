@@ -10,12 +10,27 @@ const POINTED_OUT: u64 = 10;
 pub enum Outcome {
     Checked(bool),
     Tidied(bool),
+    Ran(Run),
     Malformed,
+}
+
+// Whether RUN answered and wrote what was expected, left every number of the memory 0, and left every byte of the output
+// past the text as it was.
+pub struct Run {
+    pub as_expected: bool,
+    pub memory_zero: bool,
+    pub rest_untouched: bool,
 }
 
 struct Tally {
     cases: u64,
     differences: u64,
+}
+
+struct RunTally {
+    cases: Tally,
+    memory_left: u64,
+    rest_changed: u64,
 }
 
 pub struct Report {
@@ -24,6 +39,7 @@ pub struct Report {
     faults: u64,
     check: Tally,
     tidy: Tally,
+    run: RunTally,
 }
 
 // A count stands still at a number that no input reaches, so that the sum fits.
@@ -31,11 +47,36 @@ fn one_more(count: u64) -> u64 {
     if count < u64::MAX { count + 1 } else { count }
 }
 
+// The count with one more of what should not be, if it is not as it should be.
+fn one_more_unless(as_it_should: bool, count: u64) -> u64 {
+    if as_it_should { count } else { one_more(count) }
+}
+
+impl Run {
+    fn is_fault(self) -> bool {
+        !(self.as_expected && self.memory_zero && self.rest_untouched)
+    }
+
+    fn point_out(self) {
+        if !self.as_expected {
+            write_all(STDOUT_FILENO, b" differs");
+        }
+        if !self.memory_zero {
+            write_all(STDOUT_FILENO, b" leaves memory");
+        }
+        if !self.rest_untouched {
+            write_all(STDOUT_FILENO, b" changes output bytes");
+        }
+        write_all(STDOUT_FILENO, b"\n");
+    }
+}
+
 impl Outcome {
     fn is_fault(self) -> bool {
         match self {
             Outcome::Checked(as_expected) => !as_expected,
             Outcome::Tidied(as_expected) => !as_expected,
+            Outcome::Ran(run) => run.is_fault(),
             Outcome::Malformed => true,
         }
     }
@@ -43,10 +84,14 @@ impl Outcome {
     fn point_out(self, line: u64) {
         write_all(STDOUT_FILENO, b"line ");
         print_decimal(STDOUT_FILENO, line);
-        if let Outcome::Malformed = self {
-            write_all(STDOUT_FILENO, b" is malformed\n");
-        } else {
-            write_all(STDOUT_FILENO, b" differs\n");
+        match self {
+            Outcome::Malformed => {
+                write_all(STDOUT_FILENO, b" is malformed\n");
+            }
+            Outcome::Ran(run) => run.point_out(),
+            _ => {
+                write_all(STDOUT_FILENO, b" differs\n");
+            }
         }
     }
 
@@ -71,25 +116,48 @@ impl Tally {
     }
 
     fn after(self, as_expected: bool) -> Self {
-        let cases = one_more(self.cases);
-        if as_expected {
-            return Self {
-                cases,
-                differences: self.differences,
-            };
-        }
         Self {
-            cases,
-            differences: one_more(self.differences),
+            cases: one_more(self.cases),
+            differences: one_more_unless(as_expected, self.differences),
         }
     }
 
+    // With no line end: of runs there is more to say.
     fn print(self, kind: &[u8]) {
         write_all(STDOUT_FILENO, kind);
         print_decimal(STDOUT_FILENO, self.cases);
         write_all(STDOUT_FILENO, b" cases, ");
         print_decimal(STDOUT_FILENO, self.differences);
-        write_all(STDOUT_FILENO, b" differences\n");
+        write_all(STDOUT_FILENO, b" differences");
+    }
+}
+
+impl RunTally {
+    fn new() -> Self {
+        Self {
+            cases: Tally::new(),
+            memory_left: 0,
+            rest_changed: 0,
+        }
+    }
+
+    fn after(self, run: Run) -> Self {
+        let cases = self.cases;
+        Self {
+            cases: cases.after(run.as_expected),
+            memory_left: one_more_unless(run.memory_zero, self.memory_left),
+            rest_changed: one_more_unless(run.rest_untouched, self.rest_changed),
+        }
+    }
+
+    fn print(self, kind: &[u8]) {
+        let cases = self.cases;
+        cases.print(kind);
+        write_all(STDOUT_FILENO, b", ");
+        print_decimal(STDOUT_FILENO, self.memory_left);
+        write_all(STDOUT_FILENO, b" with memory left, ");
+        print_decimal(STDOUT_FILENO, self.rest_changed);
+        write_all(STDOUT_FILENO, b" with output bytes changed");
     }
 }
 
@@ -100,6 +168,7 @@ impl Report {
             faults: 0,
             check: Tally::new(),
             tidy: Tally::new(),
+            run: RunTally::new(),
         }
     }
 
@@ -107,35 +176,38 @@ impl Report {
     pub fn after(self, outcome: Outcome) -> Self {
         let lines = one_more(self.lines);
         let faults = outcome.count_fault(lines, self.faults);
-        let check = self.check;
-        let tidy = self.tidy;
+        let mut check = self.check;
+        let mut tidy = self.tidy;
+        let mut run = self.run;
         match outcome {
-            Outcome::Checked(as_expected) => Self {
-                lines,
-                faults,
-                check: check.after(as_expected),
-                tidy,
-            },
-            Outcome::Tidied(as_expected) => Self {
-                lines,
-                faults,
-                check,
-                tidy: tidy.after(as_expected),
-            },
-            Outcome::Malformed => Self {
-                lines,
-                faults,
-                check,
-                tidy,
-            },
+            Outcome::Checked(as_expected) => {
+                check = check.after(as_expected);
+            }
+            Outcome::Tidied(as_expected) => {
+                tidy = tidy.after(as_expected);
+            }
+            Outcome::Ran(ran) => {
+                run = run.after(ran);
+            }
+            Outcome::Malformed => {}
+        }
+        Self {
+            lines,
+            faults,
+            check,
+            tidy,
+            run,
         }
     }
 
     pub fn print(self) {
         let check = self.check;
         let tidy = self.tidy;
+        let run = self.run;
         check.print(b"check ");
-        tidy.print(b"tidy ");
+        tidy.print(b"\ntidy ");
+        run.print(b"\nrun ");
+        write_all(STDOUT_FILENO, b"\n");
         print_decimal(STDOUT_FILENO, self.lines);
         write_all(STDOUT_FILENO, b" lines, ");
         print_decimal(STDOUT_FILENO, self.faults);

@@ -1,4 +1,4 @@
--- `run_cases`: every turn goes past a line, and the three buffers stay as long as they were.
+-- `run_cases`: every turn goes past a line, and the four buffers stay as long as they were.
 use mathlib.Core.Path.{_≡_}
 use Prim.Native.Nat.{_-_}
 use borrow.Author.Needs.{needs}
@@ -7,11 +7,12 @@ use Rattle.vectors.proofs.run_cases.Statement.{statement}
 use Rattle.vectors.proofs.run_cases.Tie as tie
 
 abbrev Inv-loop : tie.InvT-loop
-Inv-loop input text₀ output₀ expected₀ report₀ at₀ text output expected report at =
-    (length text ≡ length text₀) × (length output ≡ length output₀) × (length expected ≡ length expected₀)
+Inv-loop input text₀ memory₀ output₀ expected₀ report₀ at₀ text memory output expected report at =
+    (length text ≡ length text₀) × (length memory ≡ length memory₀) × (length output ≡ length output₀)
+    × (length expected ≡ length expected₀)
 
 abbrev μ-loop : tie.MeasureT-loop
-μ-loop input text₀ output₀ expected₀ report₀ at₀ text output expected report at = length input - at
+μ-loop input text₀ memory₀ output₀ expected₀ report₀ at₀ text memory output expected report at = length input - at
 
 new-requires : tie.Need-new-requires Inv-loop μ-loop
 new-requires c κs = search needs
@@ -52,6 +53,9 @@ same-length-2 c = search needs
 same-length-3 : tie.Need-same-length-3 Inv-loop μ-loop
 same-length-3 c = search needs
 
+same-length-4 : tie.Need-same-length-4 Inv-loop μ-loop
+same-length-4 c = search needs
+
 returns : tie.Need-returns Inv-loop μ-loop
 returns c = search needs
 
@@ -74,4 +78,5 @@ run-cases-spec =
     same-length
     same-length-2
     same-length-3
+    same-length-4
     returns)
