@@ -1,0 +1,51 @@
+-- `run_text`: RUN refuses a printed text that is longer than the output, so what there is to tell lies within it.
+use native.Mathlib.Omega.{arith}
+use Rattle.telling.proofs.Fits.{printed-fits}
+use borrow.Author.Needs.{needs}
+use Rattle.runplan.proofs.run_text.Statement.{statement}
+use Rattle.runplan.proofs.run_text.Tie as tie
+
+run-requires : tie.Need-run-requires
+run-requires c κs = search needs
+
+tell-printed-requires : tie.Need-tell-printed-requires
+tell-printed-requires c κs = omega (arith, printed-fits _ _ _ _ _ (c .before .before .before .before .before .run .ensures .0))
+
+slice-aggregate-write-all : tie.Need-slice-aggregate-write-all
+slice-aggregate-write-all c = search needs
+
+write-all-requires : tie.Need-write-all-requires
+write-all-requires c κs = search needs
+
+tell-numbers-requires : tie.Need-tell-numbers-requires
+tell-numbers-requires c κs = search needs
+
+slice-aggregate-write-all-2 : tie.Need-slice-aggregate-write-all-2
+slice-aggregate-write-all-2 c = search needs
+
+write-all-requires-2 : tie.Need-write-all-requires-2
+write-all-requires-2 c κs = search needs
+
+same-length : tie.Need-same-length
+same-length c = search needs
+
+same-length-2 : tie.Need-same-length-2
+same-length-2 c = search needs
+
+returns : tie.Need-returns
+returns c = search needs
+
+pub run-text-spec : {M : Type 1} → statement M
+run-text-spec =
+    tie.close
+    (tie.spec
+    run-requires
+    tell-printed-requires
+    slice-aggregate-write-all
+    write-all-requires
+    tell-numbers-requires
+    slice-aggregate-write-all-2
+    write-all-requires-2
+    same-length
+    same-length-2
+    returns)
