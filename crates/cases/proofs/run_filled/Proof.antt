@@ -21,7 +21,7 @@ same-length-2 : tie.Need-same-length-2
 same-length-2 c = search needs
 
 returns : tie.Need-returns
-returns c = omega (arith, printed-fits _ _ _ _ _ (c .before .before .before .before .run .ensures .0))
+returns c = omega (arith, printed-fits _ _ _ _ _ (c .before .before .before .before .run .ensures .answer))
 
 pub run-filled-spec : {M : Type 1} → statement M
 run-filled-spec =

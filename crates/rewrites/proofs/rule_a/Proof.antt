@@ -1,7 +1,7 @@
 -- `rule_a`: the older block goes behind the contents of the newer one, which is then opened.
 use borrow.Author.Needs.{needs}
 use Rattle.rewrites.proofs.Chained.{aside-two, spliced-cell, spliced-close, spliced-lent, spliced-port}
-use Rattle.rewrites.proofs.Turns.{rule-a-holds, two-before, two-last, two-leaves, two-newer, two-older, two-small}
+use Rattle.rewrites.proofs.Turns.{newer-small, rule-a-holds, two-before, two-last, two-leaves, two-newer, two-older, two-small}
 use Rattle.rewrites.proofs.rule_a.Statement.{statement}
 use Rattle.rewrites.proofs.rule_a.Tie as tie
 
@@ -12,10 +12,10 @@ move-block-requires : tie.Need-move-block-requires
 move-block-requires c κs = (search needs, search two-before, search two-last, search two-older)
 
 close-requires : tie.Need-close-requires
-close-requires c κs = search two-small
+close-requires c κs = search (two-small, newer-small)
 
 unwrap-requires : tie.Need-unwrap-requires
-unwrap-requires c κs = (search (needs, spliced-lent), search (spliced-port, two-before), search (spliced-close, two-older), search (spliced-cell, two-newer))
+unwrap-requires c κs = (search (needs, spliced-lent), search (spliced-port, two-before), search (spliced-close, two-older, two-newer), search (spliced-cell, two-newer))
 
 same-length : tie.Need-same-length
 same-length c = search needs

@@ -9,7 +9,7 @@ run-requires : tie.Need-run-requires
 run-requires c κs = search needs
 
 tell-printed-requires : tie.Need-tell-printed-requires
-tell-printed-requires c κs = omega (arith, printed-fits _ _ _ _ _ (c .before .before .before .before .before .run .ensures .0))
+tell-printed-requires c κs = omega (arith, printed-fits _ _ _ _ _ (c .before .before .before .before .before .run .ensures .answer))
 
 slice-aggregate-write-all : tie.Need-slice-aggregate-write-all
 slice-aggregate-write-all c = search needs
