@@ -5,6 +5,7 @@ use mathlib.Core.Logic.{_≢_}
 use mathlib.Core.List.{List}
 use native.Mathlib.Omega.{arith}
 use lib.ListN.{length}
+use Rattle.kinds.specs.Limits.{cellLimit}
 use Rattle.plan.specs.Plan.{Plan, cells}
 use Rattle.plan.proofs.Plans.{length-labels}
 use Rattle.memory.specs.Held.{BlockIn, HeldIn}
@@ -40,7 +41,7 @@ module _ {text m : List ℕ} {h : Held} {c : ℕ} (has : HasBlock text m h c) wh
   alone : Alone (h .outer .0) (held-list m h) c (has .contents)
   alone = block-alone (has .held) (has .inside)
 
-  pub block-small : c ≤ 4096
+  pub block-small : c ≤ cellLimit
   block-small = omega (arith, alone .below .0, has .lent .few)
 
   pub block-low : (port : ℕ) → port ≡ start c → port ≤ start (h .outer .0)
@@ -73,7 +74,7 @@ module _ {m : List ℕ} {n first stop from port count : ℕ} (h : Counting m n f
   still : (p : port % 2 ≡ 0) → to-count m n first stop port ≡ to-count m n first stop (link v port) + 1
   still p = ap (λ ps. length (starts ps)) (here .on) ∙ ap length (starts-even port _ p) ∙ omega arith
 
-  pub count-fits : port % 2 ≡ 0 → count + 1 ≤ 8192
+  pub count-fits : port % 2 ≡ 0 → count + 1 ≤ 2 * cellLimit
   count-fits p = omega (arith, still p, h .so-far, h .few, h .lent .few)
 
   pub count-start : port % 2 ≡ 0 → (next : ℕ) → next ≡ link v port → (so-many : ℕ) → so-many ≡ count + 1 → Counting m n first stop from next so-many

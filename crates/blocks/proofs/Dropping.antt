@@ -7,6 +7,7 @@ use mathlib.Core.List.{List, [], _∷_}
 use native.Mathlib.Omega.{arith}
 use lib.ListN.{length, set}
 use lib.Seq.{getD-set-other}
+use Rattle.kinds.specs.Limits.{cellLimit}
 use Rattle.plan.specs.Plan.{Plan, labels}
 use Rattle.memory.specs.Memory.{start, close, link, whole}
 use Rattle.memory.specs.Model.{Lent, Aside}
@@ -28,7 +29,7 @@ pub record Dropping (m₀ : List ℕ) (n first stop from free₀ : ℕ) (m : Lis
   pub frees : first-free free (to-free (whole n m first) n stop port) ≡ first-free free₀ (to-free (whole n m₀ first) n stop from)
 
 module _ {n : ℕ} {m : List ℕ} {first c : ℕ} (h : Leaves n m first c) where
-  pub drop-small : c ≤ 4096
+  pub drop-small : c ≤ cellLimit
   drop-small = omega (arith, h .alone .below .0, h .lent .few)
 
   pub drop-first : (stop port free : ℕ) → stop ≡ close c → port ≡ start c → Dropping m n first stop port free m port free

@@ -6,6 +6,7 @@ use mathlib.Core.Logic.{_≢_}
 use mathlib.Core.List.{List}
 use native.Mathlib.Omega.{arith}
 use lib.ListN.{length}
+use Rattle.kinds.specs.Limits.{cellLimit}
 use Rattle.plan.specs.Plan.{Plan}
 use Rattle.memory.specs.Memory.{start, close, link, ports, last-of, whole}
 use Rattle.memory.specs.Model.{Lent}
@@ -21,7 +22,7 @@ pub record Ending (m : List ℕ) (n first stop from next₀ port next : ℕ) : T
   pub last : last-of port (ahead (whole n m first) n stop next) ≡ last-of from (ahead (whole n m first) n stop next₀)
 
 module _ {n : ℕ} {m : List ℕ} {first c : ℕ} (h : Leaves n m first c) where
-  pub last-small : c ≤ 4096
+  pub last-small : c ≤ cellLimit
   last-small = omega (arith, h .alone .below .0, h .lent .few)
 
   pub last-low : (port : ℕ) → port ≡ start c → port ≤ start n

@@ -1,11 +1,12 @@
 -- How many cells a rewrite makes more or fewer, by the operator's kind: document 01's table, inside any plan. And a plan that is
 -- held has no more cells than are lent.
-use Prim.Native.Nat.{ℕ, _+_, _≤_}
+use Prim.Native.Nat.{ℕ, _+_, _*_, _≤_}
 use mathlib.Core.Path.{_≡_, refl, ap, sym, subst}
 use mathlib.Core.Logic.{_≢_, inl}
 use mathlib.Core.List.{List, _∷_, _++_}
 use native.Mathlib.Omega.{arith}
 use lib.ListN.{length, length-append}
+use Rattle.kinds.specs.Limits.{cellLimit}
 use Rattle.plan.specs.Plan.{op-a, op-b, op-c, op-d, Plan, operator, block, _then_, cells, labels}
 use Rattle.plan.proofs.Plans.{cells-then, length-labels}
 use Rattle.plan.proofs.Rewrites.{cells-a, cells-b, cells-c, cells-d}
@@ -104,13 +105,13 @@ module _ {text m : List ℕ} {h : Held} {spot : Spot} {size : ℕ} (k : Countabl
       here : count ≡ cells (counted .contents)
       here = is (plug (k .frame) (k .before)) (counted .contents) (k .spotted .held) (counted .inside)
 
-      pub size-small : size ≤ 4096
+      pub size-small : size ≤ cellLimit
       size-small = omega (arith, k .spotted .sized, held-cells text m h (plug (k .frame) (k .before)) (k .spotted .held), k .lent .few)
 
       pub count-fewer : spot .kind ≢ 2 → count + 2 ≤ size
       count-fewer other = omega (arith, here, counted .dropped other)
 
-      pub count-more : spot .kind ≡ 2 → size + count ≤ 8192
+      pub count-more : spot .kind ≡ 2 → size + count ≤ 2 * cellLimit
       count-more two =
           let b = counted .contents in
           let t = plug (k .frame) (k .before) in

@@ -6,22 +6,13 @@ use mathlib.Core.Logic.{_≢_}
 use mathlib.Core.List.{List, [], _∷_, _++_}
 use native.Mathlib.Omega.{arith}
 use lib.ListN.{length, length-append}
-use Rattle.plan.specs.Plan.{Plan, end, operator, token, block, labels}
+use Rattle.plan.specs.Plan.{Plan, labels}
 use Rattle.memory.specs.Memory.{start, close, link, ports, Below, Holds}
-use Rattle.memory.proofs.Lists.{below-split, below-join, below-absent, absent-split, distinct-split}
+use Rattle.memory.proofs.Lists.{below-split, below-absent, absent-split, distinct-split}
 use Rattle.memory.proofs.Ports.{close-absent, ports-distinct}
-use Rattle.blocks.proofs.Starts.{way-through}
+use Rattle.blocks.proofs.Starts.{below-ports, way-through}
 use Rattle.blocks.proofs.Ways.{ahead, Leads, leads-linked, Way, way-from}
 use Rattle.hunt.specs.Hunting.{SequenceAt}
-
-below-ports : (n : ℕ) (t : Plan ℕ) → Below n (labels t) → Below (start n) (ports t)
-unfolding ports labels
-below-ports n end h = tt
-below-ports n (operator c o p) h = (omega arith, below-ports n p (h .1))
-below-ports n (token c t p) h = (omega arith, below-ports n p (h .1))
-below-ports n (block c b p) h =
-    let r = below-split n (labels b) (labels p) (h .1) in
-    (omega arith, below-join (start n) (ports b) (close c ∷ ports p) (below-ports n b (r .0)) (omega arith, below-ports n p (r .1)))
 
 pub way-sequence : {text : List ℕ} {n : ℕ} {w : List ℕ} {s : ℕ} {q : Plan ℕ} → SequenceAt text n w s q
     → Way w n (close s) (link w (start s)) (ports q)

@@ -6,6 +6,7 @@ use mathlib.Core.Logic.{_≢_, _⊎_, inl, inr}
 use mathlib.Core.List.{List, [], _∷_}
 use native.Mathlib.Omega.{arith}
 use lib.ListN.{length, getD, length-append}
+use Rattle.kinds.specs.Limits.{cellLimit}
 use Rattle.plan.specs.Plan.{Plan, end, operator, token, block}
 use Rattle.memory.specs.Memory.{start, close, datum, link, whole, block-kind, ports, Says}
 use Rattle.memory.specs.Model.{Lent}
@@ -34,7 +35,7 @@ pub record Scanning (text m : List ℕ) (n first stop last second third at : ℕ
   pub window : Window cell sequence last second third y
 
 module _ {text m : List ℕ} {h : Held} {s : ℕ} (can : Scannable text m h s) where
-  pub scan-small : s ≤ 4096
+  pub scan-small : s ≤ cellLimit
   scan-small = omega (arith, can .there .low, can .lent .few)
 
   pub scan-start : (last : ℕ) → last ≡ start s → last ≤ start (h .outer .0)

@@ -1,5 +1,5 @@
 -- Whether an operator is ready and whether a block opens, each case under the tests that the code makes.
-use Prim.Native.Nat.{ℕ, _+_, _*_, _/_, _%_, _≤_, _<_}
+use Prim.Native.Nat.{ℕ, _+_, _*_, _%_, _≤_, _<_}
 use mathlib.Core.Path.{_≡_, ap, _∙_}
 use mathlib.Core.Logic.{_≢_}
 use mathlib.Core.Bool.{true, false}
@@ -12,18 +12,8 @@ use lib.Seq.{getD-append-add, length-take-le}
 use Rattle.memory.specs.Memory.{start, datum, whole, block-kind}
 use Rattle.memory.specs.Model.{Lent}
 use Rattle.memory.proofs.Whole.{number-whole}
-use Rattle.hunt.specs.Hunting.{opens, ready-at}
-use Rattle.hunt.specs.declared.Spot.{Spot}
+use Rattle.hunt.specs.Hunting.{opens, ready-at, spot-at}
 use Rattle.hunt.specs.declared.Hunted.the-variants.{Nothing, Ready}
-
-abbrev pub spot-at : (kind at last second before : ℕ) → Spot
-spot-at kind at last second before = record {
-  kind = kind;
-  before = record { 0 = before };
-  older = record { 0 = second / 2 };
-  newer = record { 0 = last / 2 };
-  operator = record { 0 = at / 2 };
-}
 
 module _ (kind at last second third : ℕ) where
   -- the operators a and b

@@ -7,6 +7,7 @@ use mathlib.Core.Bool.{Bool, true, false}
 use mathlib.Core.List.{List, [], _∷_, _++_}
 use native.Mathlib.Omega.{arith}
 use lib.ListN.{length}
+use Rattle.kinds.specs.Limits.{cellLimit}
 use Rattle.plan.specs.Plan.{Plan}
 use Rattle.memory.specs.Held.{HeldIn}
 use Rattle.memory.specs.Memory.{start, close, datum, link, block-kind, ports, Linked}
@@ -54,10 +55,10 @@ module _ {text m : List ℕ} {h : Held} {from : ℕ} (can : Huntable text m h fr
   inside : SequenceAt text n w (cell-of n (can .awaits .frame)) (can .awaits .sequence)
   inside = inside-plug (can .awaits .frame) (can .awaits .sequence) (subst (HeldIn text m h) (can .awaits .there) (can .held))
 
-  pub outer-small : n ≤ 4096
+  pub outer-small : n ≤ cellLimit
   outer-small = can .lent .few
 
-  pub from-small : from ≤ 4096
+  pub from-small : from ≤ cellLimit
   from-small = omega (arith, can .awaits .cell, inside .low, can .lent .few)
 
   pub hunt-first : (stop port : ℕ) → stop ≡ close n → port ≡ start from → Walking text m h stop port

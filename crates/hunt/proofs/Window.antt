@@ -12,10 +12,10 @@ use Rattle.plan.specs.Rewriting.{after-two, first-block, outer}
 use Rattle.plan.proofs.Plans.{then-assoc}
 use Rattle.memory.specs.Memory.{start, close, operator-kind, ports, last-of}
 use Rattle.memory.proofs.Ports.{ports-then}
-use Rattle.hunt.specs.Hunting.{by-a, by-b, by-c, by-d, Scanned, ready-at}
+use Rattle.hunt.specs.Hunting.{by-a, by-b, by-c, by-d, Scanned, ready-at, spot-at}
 use Rattle.hunt.specs.declared.Hunted.{Hunted}
 use Rattle.hunt.specs.declared.Hunted.the-variants.{Nothing, Ready}
-use Rattle.hunt.proofs.Tests.{spot-at, behind-two, second-missing, both-missing, behind-one, block-missing}
+use Rattle.hunt.proofs.Tests.{behind-two, second-missing, both-missing, behind-one, block-missing}
 
 -- in the sequence q inside the cell s, z is behind the port `before`, and the leftmost ready operator is one of z's
 pub record Front (s : ℕ) (q : Plan ℕ) (before : ℕ) (z : Plan ℕ) : Type 0 where

@@ -73,6 +73,16 @@ pub record Huntable (text m : List ℕ) (h : Held) (from : ℕ) : Type 0 where
 unfoldable pub opens : List ℕ → (port : ℕ) → Bool
 opens w port = cond (eqb (port % 2) 0) (eqb (datum w port) block-kind) false
 
+-- the operator at the port `at`, behind blocks that close at the last two ports
+abbrev pub spot-at : (kind at last second before : ℕ) → Spot
+spot-at kind at last second before = record {
+  kind = kind;
+  before = record { 0 = before };
+  older = record { 0 = second / 2 };
+  newer = record { 0 = last / 2 };
+  operator = record { 0 = at / 2 };
+}
+
 -- Whether the operator at the port `at` is ready, by its kind and the three ports before the items before it: a port that is
 -- odd is a block's close, so the item before is a block.
 unfoldable pub ready-at : (kind at last second third : ℕ) → Hunted
@@ -80,12 +90,3 @@ ready-at kind at last second third =
     cond (ltb kind 2)
     (cond (eqb (last % 2) 1) (cond (eqb (second % 2) 1) (Ready (spot-at kind at last second third)) Nothing) Nothing)
     (cond (ltb kind 4) (cond (eqb (last % 2) 1) (Ready (spot-at kind at last second second)) Nothing) Nothing)
-  where
-    spot-at : (kind at last second before : ℕ) → Spot
-    spot-at kind at last second before = record {
-      kind = kind;
-      before = record { 0 = before };
-      older = record { 0 = second / 2 };
-      newer = record { 0 = last / 2 };
-      operator = record { 0 = at / 2 };
-    }

@@ -4,6 +4,7 @@ use Prim.Native.Nat.{ℕ, _+_, _≤_, _<_}
 use mathlib.Core.Path.{_≡_, ap, ap₂, sym, _∙_, subst, subst₂}
 use mathlib.Core.List.{List, [], _∷_, _++_}
 use native.Mathlib.Omega.{arith}
+use Rattle.kinds.specs.Limits.{cellLimit}
 use Rattle.kinds.specs.declared.Cell.{Cell}
 use Rattle.plan.specs.Plan.{Plan, end, block, _then_, cells, labels}
 use Rattle.plan.proofs.Plans.{cells-then, then-end}
@@ -54,10 +55,10 @@ module _ {m : List ℕ} {h : Held} {before older newer : ℕ} (k : TwoBlocks m h
   pub two-newer : newer < h .outer .0
   two-newer = second-alone .below .0
 
-  pub two-small : older ≤ 4096
+  pub two-small : older ≤ cellLimit
   two-small = omega (arith, two-older, k .lent .few)
 
-  pub newer-small : newer ≤ 4096
+  pub newer-small : newer ≤ cellLimit
   newer-small = omega (arith, two-newer, k .lent .few)
 
   -- the last port inside the newer block
@@ -116,7 +117,7 @@ module _ {text m : List ℕ} {h : Held} {newer : ℕ} (k : OneBlock text m h new
   pub one-low : newer < h .outer .0
   one-low = block-there _ _ _ _ (k .frame) (k .front) newer (k .contents) (k .behind) (k .held) .below .0
 
-  pub one-small : newer ≤ 4096
+  pub one-small : newer ≤ cellLimit
   one-small = omega (arith, one-low, k .lent .few)
 
   -- the copy as it was made
@@ -139,7 +140,7 @@ module _ {text m : List ℕ} {h : Held} {newer : ℕ} (k : OneBlock text m h new
       cells-same : r .held .outer .0 ≡ h .outer .0
       cells-same = ap (λ (c : Cell). c .0) same
 
-      pub copy-small : r .copy .0 ≤ 4096
+      pub copy-small : r .copy .0 ≤ cellLimit
       copy-small = omega (arith, copy-low, cells-same, k .lent .few)
 
       pub copied-lent : Aside (h .outer .0) m m₁ → Lent (r .held .outer .0) m₁
@@ -158,7 +159,7 @@ module _ {m : List ℕ} {h : Held} {before newer : ℕ} (k : DropBlock m h befor
   pub drop-low : newer < h .outer .0
   drop-low = block-there _ _ _ _ (k .frame) (k .front) newer (k .contents) (k .behind) (k .held) .below .0
 
-  pub drop-small : newer ≤ 4096
+  pub drop-small : newer ≤ cellLimit
   drop-small = omega (arith, drop-low, k .lent .few)
 
 -- the block once it is out of the plan
