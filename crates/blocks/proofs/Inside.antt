@@ -1,13 +1,11 @@
 -- A block of a plan that the memory holds is linked in itself, since its ports are a run of the plan's.
-use Prim.Native.Nat.{ℕ, _+_, _*_}
+use Prim.Native.Nat.{ℕ, _+_}
 use mathlib.Core.Path.{_≡_, ap, _∙_, subst}
 use mathlib.Core.List.{List, [], _∷_, _++_, append-assoc}
-use native.Mathlib.Omega.{arith}
-use lib.ListN.{set}
 use Rattle.plan.specs.Plan.{Plan, labels}
 use Rattle.memory.specs.Held.{BlockIn}
-use Rattle.memory.specs.Memory.{start, close, ports, Linked, Below, Absent, Distinct, Holds}
-use Rattle.memory.proofs.Lists.{below-split, distinct-split, linked-split, linked-before}
+use Rattle.memory.specs.Memory.{start, close, ports, Linked, Below, Distinct, Holds}
+use Rattle.memory.proofs.Lists.{below-split, distinct-split, linked-split}
 use Rattle.memory.proofs.Within.{block-labels, block-ports}
 use Rattle.blocks.specs.Blocks.{Alone}
 
@@ -24,16 +22,4 @@ block-alone {text} {n} {w} {free} {c} {b} {t} h i =
       chain = linked-split w (start c ∷ ports b) (close c) (p .1 ++ close n ∷ []) onward .0;
       distinct = distinct-split (c ∷ labels b) (l .1) each .0;
       below = below-split n (c ∷ labels b) (l .1) low .0;
-    }
-
--- a store at the link of a port from elsewhere, or of the block's own close
-pub alone-beside : {n : ℕ} {w : List ℕ} {c : ℕ} {b : Plan ℕ} (p a : ℕ) → Absent p (start c ∷ ports b) → Alone n w c b
-    → Alone n (set w (2 * p + 1) a) c b
-alone-beside {n} {w} {c} {b} p a h k =
-    record {
-      chain =
-          linked-before w (start c ∷ ports b) (close c) (2 * p + 1) a (λ q e. subst (λ z. Absent z (start c ∷ ports b)) (omega arith) h)
-          (k .chain);
-      distinct = k .distinct;
-      below = k .below;
     }

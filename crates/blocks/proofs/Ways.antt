@@ -3,7 +3,7 @@
 -- no plan to tell where it is still ends.
 use Prim.Native.Nat.{ℕ, zero, suc, _+_, _*_, _≤_, _<_}
 use mathlib.Core.Path.{_≡_, refl, ap, sym, _∙_, subst}
-use mathlib.Core.Bool.{Bool, true, false, cond}
+use mathlib.Core.Bool.{Bool, true, false}
 use mathlib.Core.Logic.{_≢_, _⊎_, inl, inr}
 use mathlib.Core.List.{List, [], _∷_, _++_}
 use native.Mathlib.Omega.{arith}
@@ -13,6 +13,7 @@ use lib.ListN.{length, set, length-append}
 use lib.Seq.{getD-set-other}
 use Rattle.memory.specs.Memory.{start, link, Linked, Below, Absent, Distinct}
 use Rattle.memory.proofs.Freeing.{below-swap, distinct-swap}
+use Rattle.memory.proofs.Walking.{along}
 
 -- numbers below n, none of them twice, are at most n
 
@@ -49,11 +50,6 @@ at-most zero (x ∷ xs) b d = absurd (omega arith)
 at-most (suc n) xs b d = at-most-split n xs (at-most n) b d (split n xs)
 
 -- ways
-
--- the ports from one on up to a stop, in so many steps
-pub along : (w : List ℕ) → (stop steps port : ℕ) → List ℕ
-along w stop zero port = []
-along w stop (suc k) port = cond (eqb port stop) [] (port ∷ along w stop k (link w port))
 
 abbrev pub ahead : (w : List ℕ) → (n stop port : ℕ) → List ℕ
 ahead w n stop port = along w stop (2 * n) port

@@ -7,7 +7,7 @@ use mathlib.Core.List.{List, [], _∷_, _++_, append-assoc}
 use native.Mathlib.Omega.{arith}
 use native.Mathlib.Decide.{decLt}
 use lib.ListN.{length, getD, set, length-append}
-use Rattle.plan.specs.Plan.{Operator, op-a, op-b, op-c, op-d, Plan, end, operator, token, block, _then_, bare, cells, labels, relabel}
+use Rattle.plan.specs.Plan.{Operator, Plan, end, operator, token, block, _then_, bare, cells, labels, relabel}
 use Rattle.plan.specs.Reading.{Around, outermost, inside}
 use Rattle.plan.proofs.Plans.{then-end}
 use Rattle.plan.proofs.Reached.{seen, seen-then}
@@ -31,7 +31,7 @@ use Rattle.memory.specs.Model.{Model, with-item}
 use Rattle.memory.proofs.Beside.{Agree, Kept, block-kept, item-kept, link-kept, linked-agree, says-agree, token-kept}
 use Rattle.memory.proofs.Building.{close-block, finish-in, has-room, open-block, put-operator, put-token}
 use Rattle.memory.proofs.Lists.{absent-split, below-absent, below-split, distinct-split, not-before}
-use Rattle.memory.proofs.Ports.{ports-absent}
+use Rattle.memory.proofs.Ports.{kind-low, ports-absent}
 use Rattle.memory.proofs.Steps.{opened-lent}
 use Rattle.copier.specs.Copying.{CopyHeld, like}
 use Rattle.copier.proofs.Ahead.{
@@ -88,12 +88,6 @@ in-below n c cs low m = go (decLt c n)
     go : Dec (c < n) → c < n
     go (yes h) = h
     go (no h) = absurd (m (below-absent n c cs (omega arith) low))
-
-kind-low : (o : Operator) → operator-kind o < 4
-kind-low op-a = omega arith
-kind-low op-b = omega arith
-kind-low op-c = omega arith
-kind-low op-d = omega arith
 
 -- the plan's own cells have their numbers yet, for the copy is none of them
 

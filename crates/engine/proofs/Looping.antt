@@ -1,28 +1,22 @@
 -- The turns of a run: the definition's run from the first plan is as many steps and the definition's run from the plan that is
 -- held now, with what is left of the quota. No turn looks at a cell's number, so the runs are told without labels.
-use Prim.Native.Nat.{ℕ, zero, suc, _+_, _-_, _≤_, _<_}
+use Prim.Native.Nat.{ℕ, zero, suc, _+_, _-_, _<_}
 use mathlib.Core.Path.{_≡_, refl, ap, sym, _∙_, subst}
-use mathlib.Core.Bool.{Bool, true, false}
-use mathlib.Core.Option.{Option, none, some}
 use mathlib.Core.List.{List}
 use native.Mathlib.Omega.{arith}
 use native.Mathlib.Numerals.{add-one}
-use borrow.Author.Tests.{lt-leb, ltb-false, ltb-true}
+use borrow.Author.Tests.{ltb-false, ltb-true}
 use lib.Dec.{ltb}
 use Rattle.kinds.specs.declared.Cell.{Cell}
-use Rattle.plan.specs.Options.{under}
 use Rattle.plan.specs.Plan.{Plan, bare, cells}
-use Rattle.plan.specs.Rewriting.{next}
-use Rattle.plan.specs.Running.{Ran, RAN, STOP, GO, ask, one-more, run-plan}
+use Rattle.plan.specs.Running.{Ran, RAN, one-more, run-plan}
 use Rattle.plan.specs.declared.Ending.{Ending}
 use Rattle.plan.specs.declared.Ending.the-variants.{Done, Quota, Full}
 use Rattle.plan.proofs.Plans.{cells-relabel}
-use Rattle.plan.proofs.Rewrites.{next-relabel}
-use Rattle.plan.proofs.Runs.{ask-go, ask-relabel, retell, run-go, run-spent, run-stop}
+use Rattle.plan.proofs.Runs.{ask-relabel, retell, run-go, run-spent, run-stop}
 use Rattle.memory.specs.Model.{Aside, Lent}
 use Rattle.memory.specs.declared.Held.{Held}
 use Rattle.memory.proofs.Whole.{aside-on, aside-same, lent-kept}
-use Rattle.rewrites.specs.Rules.{Rewritten}
 use Rattle.engine.specs.Running.{RanAs, Runnable, SameCells, Sized, Turned}
 use Rattle.engine.specs.declared.Turn.{Turn}
 use Rattle.engine.specs.declared.Turn.the-variants.{Stopped, Went}

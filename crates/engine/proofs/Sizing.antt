@@ -7,7 +7,7 @@ use mathlib.Core.List.{List, _∷_, _++_}
 use native.Mathlib.Omega.{arith}
 use lib.ListN.{length, length-append}
 use Rattle.kinds.specs.Limits.{cellLimit}
-use Rattle.plan.specs.Plan.{op-a, op-b, op-c, op-d, Plan, operator, block, _then_, cells, labels}
+use Rattle.plan.specs.Plan.{Plan, operator, block, _then_, cells, labels}
 use Rattle.plan.proofs.Plans.{cells-then, length-labels}
 use Rattle.plan.proofs.Rewrites.{cells-a, cells-b, cells-c, cells-d}
 use Rattle.memory.specs.Held.{BlockIn, HeldIn}

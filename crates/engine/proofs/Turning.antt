@@ -9,7 +9,7 @@ use borrow.Author.Tests.{lt-leb}
 use Rattle.plan.specs.Options.{_else_, under}
 use Rattle.plan.specs.Plan.{Plan, cells}
 use Rattle.plan.specs.Rewriting.{next}
-use Rattle.plan.specs.Running.{STOP, GO, ask}
+use Rattle.plan.specs.Running.{GO, ask}
 use Rattle.plan.specs.declared.Ending.the-variants.{Done, Quota, Full}
 use Rattle.plan.proofs.Runs.{ask-go}
 use Rattle.memory.specs.Held.{HeldIn}

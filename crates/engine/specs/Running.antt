@@ -1,9 +1,8 @@
 -- What one turn and a whole run make of the plan that the memory holds: those of the definition, asked in its order.
-use Prim.Native.Nat.{ℕ, _≤_}
+use Prim.Native.Nat.{ℕ}
 use mathlib.Core.Path.{_≡_}
 use mathlib.Core.Bool.{Bool, true, false}
 use mathlib.Core.List.{List}
-use Rattle.plan.specs.declared.Ending.{Ending}
 use Rattle.plan.specs.declared.Ending.the-variants.{Done, Quota, Full}
 use Rattle.plan.specs.Plan.{Plan, bare, cells}
 use Rattle.plan.specs.Rewriting.{next}

@@ -1,20 +1,15 @@
 -- The numbers tell the plan: two plans that are linked from the same port on and that the same cells say are one. An item
 -- begins with a start, which is an even port, and a sequence ends with a close, which is an odd one; so the links tell where
 -- a sequence ends, and the data which item each is.
-use Prim.Native.Nat.{ℕ, _<_}
+use Prim.Native.Nat.{ℕ}
 use mathlib.Core.Path.{_≡_, refl, ap, sym, _∙_}
 use mathlib.Core.List.{List, [], _∷_, _++_, append-assoc, append-cancel-right}
 use native.Mathlib.Omega.{arith}
 use Rattle.plan.specs.Plan.{Operator, op-a, op-b, op-c, op-d, Plan, end, operator, token, block, close-brace}
 use Rattle.memory.specs.Memory.{start, close, datum, link, operator-kind, ports, Linked, TokenAt, Says, Holds}
 use Rattle.memory.proofs.Lists.{linked-split}
+use Rattle.memory.proofs.Ports.{kind-low}
 use Rattle.hunt.specs.Hunting.{SequenceAt}
-
-pub kind-low : (o : Operator) → operator-kind o < 4
-kind-low op-a = omega arith
-kind-low op-b = omega arith
-kind-low op-c = omega arith
-kind-low op-d = omega arith
 
 one-operator : (o o′ : Operator) → operator-kind o ≡ operator-kind o′ → o ≡ o′
 one-operator op-a op-a e = refl

@@ -12,13 +12,14 @@ use Rattle.memory.specs.Memory.{start, close, datum, link, whole, block-kind, p
 use Rattle.memory.specs.Model.{Lent}
 use Rattle.memory.specs.declared.Held.{Held}
 use Rattle.memory.proofs.Whole.{number-whole}
+use Rattle.memory.proofs.Ports.{kind-low}
 use Rattle.blocks.proofs.Ways.{ahead, way-ahead, Way}
 use Rattle.hunt.specs.Hunting.{SequenceAt, Scannable, Scanned, held-numbers, ready-at}
 use Rattle.hunt.specs.declared.Spot.{Spot}
 use Rattle.hunt.specs.declared.Hunted.{Hunted}
 use Rattle.hunt.specs.declared.Hunted.the-variants.{Nothing, Ready}
 use Rattle.hunt.proofs.Along.{way-sequence, way-skip}
-use Rattle.hunt.proofs.One.{kind-low, one-inside}
+use Rattle.hunt.proofs.One.{one-inside}
 use Rattle.hunt.proofs.Tests.{no-operator}
 use Rattle.hunt.proofs.Window.{Window, begin, none-ready, window-token, window-block, window-operator, Tested}
 

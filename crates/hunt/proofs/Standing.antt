@@ -17,10 +17,10 @@ use Rattle.plan.proofs.Plans.{then-assoc, then-end}
 use Rattle.plan.proofs.Rewrites.{outer-first, inner-after}
 use Rattle.memory.specs.Memory.{start, close, datum, link, block-kind, ports, Linked, Says, Below, Holds}
 use Rattle.memory.proofs.Lists.{below-split}
+use Rattle.memory.proofs.Ports.{kind-low}
 use Rattle.hunt.specs.Frames.{Frame, top, within, plug, cell-of, beyond}
 use Rattle.hunt.specs.Hunting.{opens}
 use Rattle.hunt.proofs.Frames.{right, says-split, says-around, block-low}
-use Rattle.hunt.proofs.One.{kind-low}
 
 -- the ports from those of the items z on, where the items z end a sequence in the frame
 abbrev pub onward : (n : ℕ) → Frame → Plan ℕ → List ℕ

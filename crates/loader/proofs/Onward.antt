@@ -1,5 +1,5 @@
 -- The turns of the loop that builds a plan from an accepted text, with the memory and what is kept beside it.
-use Prim.Native.Nat.{ℕ, suc, _+_, _-_, _≤_, _<_}
+use Prim.Native.Nat.{ℕ, _+_, _-_, _≤_, _<_}
 use mathlib.Core.Path.{_≡_, refl, ap, sym, _∙_, subst}
 use mathlib.Core.Bool.{Bool, true, false, cond}
 use mathlib.Core.Logic.{_≢_}
@@ -13,13 +13,13 @@ use Rattle.kinds.specs.Limits.{textLimit, tokenLimit}
 use Rattle.kinds.specs.declared.Cell.{Cell}
 use Rattle.kinds.specs.declared.Token.{Token}
 use Rattle.plan.specs.Plan.{Operator, op-a, op-b, op-c, op-d, Plan, bare, close-brace}
-use Rattle.plan.specs.Reading.{Class, OPERATOR, OPEN, CLOSE, BRACE, BLANK, BAD, PLAN, class, read}
+use Rattle.plan.specs.Reading.{OPERATOR, BLANK, BAD, PLAN, class, read}
 use Rattle.plan.specs.Refusals.{Begins}
 use Rattle.plan.proofs.Tokens.{Found, allowed-parts}
 use Rattle.text.specs.Classes.{class-number}
 use Rattle.text.proofs.ClassNumbers.{by-number, operator-number, other-number}
 use Rattle.memory.specs.Held.{HeldIn}
-use Rattle.memory.specs.Memory.{operator-kind, whole}
+use Rattle.memory.specs.Memory.{operator-kind}
 use Rattle.memory.specs.Model.{
   Aside,
   Finished,

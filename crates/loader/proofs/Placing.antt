@@ -1,9 +1,9 @@
 -- Building from an accepted text: what the loop knows at each place, and each turn of it on plain values. The bytes passed hold
 -- no fault, what is built prints as they do without their blanks, and its labels are its cells. Since the text was accepted,
 -- no byte is a fault and each item finds a free cell.
-use Prim.Native.Nat.{ℕ, suc, _+_, _*_, _≤_, _<_}
+use Prim.Native.Nat.{ℕ, suc, _+_, _≤_, _<_}
 use mathlib.Core.Path.{_≡_, refl, ap, sym, _∙_, subst}
-use mathlib.Core.Bool.{false, true}
+use mathlib.Core.Bool.{false}
 use mathlib.Core.Logic.{_≢_}
 use mathlib.Core.Option.{Option, none, some}
 use mathlib.Core.List.{List, [], _∷_, _++_, append-assoc}
@@ -11,27 +11,10 @@ use native.Mathlib.Omega.{arith}
 use lib.ListN.{length, getD, take, drop, length-append, length-drop}
 use lib.Seq.{drop-cons, length-take-le, split-at, take-add, take-all, take-at}
 use Rattle.kinds.specs.Limits.{tokenLimit}
-use Rattle.plan.specs.Plan.{Operator, Plan, end, operator, token, block, _then_, bare, cells, labels, print, open-brace, close-brace}
-use Rattle.plan.specs.Token.{allowed, Allowed, token-text}
-use Rattle.plan.specs.Reading.{
-  Around,
-  outermost,
-  inside,
-  Class,
-  OPERATOR,
-  OPEN,
-  CLOSE,
-  BRACE,
-  BLANK,
-  BAD,
-  class,
-  PLAN,
-  REFUSED,
-  read,
-  read-from,
-  without-blanks,
-}
-use Rattle.plan.specs.Refusals.{Begins, Faultless, nothing, blank, an-operator, a-token, opens, closes, Fault, bad-byte, bad-token, unmatched, Row, fault, unclosed}
+use Rattle.plan.specs.Plan.{Operator, Plan, end, _then_, bare, labels, print, open-brace, close-brace}
+use Rattle.plan.specs.Token.{Allowed, token-text}
+use Rattle.plan.specs.Reading.{Around, outermost, inside, OPERATOR, OPEN, CLOSE, BRACE, BLANK, BAD, class, PLAN, read, read-from, without-blanks}
+use Rattle.plan.specs.Refusals.{Begins, Faultless, nothing, blank, an-operator, a-token, opens, closes, Fault, bad-byte, bad-token, unmatched, fault, unclosed}
 use Rattle.plan.specs.declared.Refusal.{Refusal}
 use Rattle.plan.proofs.Classes.{class-byte}
 use Rattle.plan.proofs.Options.{Each}

@@ -2,7 +2,6 @@
 -- by the one law that all n cells, each once, stay so where two neighbouring runs of them change places.
 use Prim.Native.Nat.{ℕ, _+_, _*_}
 use mathlib.Core.Path.{_≡_, refl, sym, _∙_, subst}
-use mathlib.Core.Logic.{_↔_}
 use mathlib.Core.List.{List, [], _∷_, _++_, append-assoc}
 use native.Mathlib.Omega.{arith}
 use lib.ListN.{length, set, length-append, length-set}
@@ -66,9 +65,6 @@ module _ {n : ℕ} {w : List ℕ} {free : ℕ} where
       let after : (xs ++ (zs ++ (ys ++ us))) ++ s .spare ≡ xs ++ (zs ++ (ys ++ (us ++ s .spare))) = simp append-assoc in
       let moved = subst (EachOnce n) (sym after) (each-once-swap n xs ys zs (us ++ s .spare) (subst (EachOnce n) before (s .below, s .distinct, s .all))) in
       record { spare = s .spare; frees = s .frees; below = moved .0; distinct = moved .1; all = moved .2; room = s .room }
-
-  pub shared-move : (xs : List ℕ) (c : ℕ) (ys : List ℕ) → Shared n w free (xs ++ c ∷ ys) ↔ Shared n w free (c ∷ (xs ++ ys))
-  shared-move xs c ys = (shared-swap [] xs (c ∷ []) ys, shared-swap [] (c ∷ []) xs ys)
 
   -- a cell leaves the plan
   pub shared-free : (xs : List ℕ) (c : ℕ) (ys : List ℕ) → Shared n w free (xs ++ c ∷ ys) → Shared n (set w (2 * start c + 1) free) c (xs ++ ys)

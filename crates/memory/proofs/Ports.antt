@@ -1,21 +1,21 @@
 -- Laws of the ports of a plan and of what its cells say: over `_then_`, a port belongs to a labelled cell, no port comes twice
 -- where no label does, and what a store leaves as it is. Two kinds of stores: one in a cell that the plan does not have, and
 -- one at the link of a port, where that port is a start or a block's close.
-use Prim.Native.Nat.{ℕ, _+_, _*_, _/_}
+use Prim.Native.Nat.{ℕ, _+_, _*_, _/_, _<_}
 use mathlib.Core.Path.{_≡_, refl, ap, sym, _∙_, subst, subst₂}
 use mathlib.Core.Logic.{_≢_}
 use mathlib.Core.List.{List, _∷_, _++_, append-assoc}
 use native.Mathlib.Omega.{arith}
 use lib.ListN.{set}
 use lib.Seq.{getD-set-other}
-use Rattle.plan.specs.Plan.{Plan, end, operator, token, block, _then_, labels}
+use Rattle.plan.specs.Plan.{Operator, op-a, op-b, op-c, op-d, Plan, end, operator, token, block, _then_, labels}
 use Rattle.plan.specs.Reading.{Around, outermost, inside}
-use Rattle.plan.proofs.Plans.{labels-then}
 use Rattle.plan.proofs.Reached.{seen}
 use Rattle.memory.specs.Memory.{
   start,
   close,
   datum,
+  operator-kind,
   block-kind,
   ports,
   TokenAt,
@@ -200,3 +200,10 @@ keeps-link n w (inside c before out) here p a h k =
       getD-set-other w (2 * p + 1) (2 * close c + 1) a 0 (omega arith) ∙ k .0,
       keeps-link n w out before p a (λ d e. absent-split d (seen out before) (c ∷ labels here) (h d e) .0) (k .1),
     )
+
+-- an operator's kind is neither a token's nor a block's
+pub kind-low : (o : Operator) → operator-kind o < 4
+kind-low op-a = omega arith
+kind-low op-b = omega arith
+kind-low op-c = omega arith
+kind-low op-d = omega arith

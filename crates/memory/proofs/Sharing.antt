@@ -11,14 +11,14 @@ use Rattle.memory.proofs.Lists.{below-split, below-absent, distinct-spl
 -- whether a cell is free
 
 room-if : (n : ℕ) (w : List ℕ) (free : ℕ) (used cs : List ℕ) → Free w free cs n → Below n (used ++ cs) → length (used ++ cs) ≡ n
-    → (length used < n → free < n) × (length used ≡ n → free ≡ n) × (free < n → length used < n)
+    → (length used < n → free < n) × (length used ≡ n → free ≡ n)
 room-if n w free used [] f b l =
     let none = length-append used [] in
-    (λ h. absurd (omega arith), λ h. f, λ h. absurd (omega arith))
+    (λ h. absurd (omega arith), λ h. f)
 room-if n w free used (c ∷ cs) f b l =
     let more = length-append used (c ∷ cs) in
     let low = below-split n used (c ∷ cs) b .1 .0 in
-    (λ h. omega arith, λ h. absurd (omega arith), λ h. omega arith)
+    (λ h. omega arith, λ h. absurd (omega arith))
 
 module _ {n : ℕ} {w : List ℕ} {free : ℕ} {used : List ℕ} (s : Shared n w free used) where
   pub room-free : length used < n → free < n
@@ -26,9 +26,6 @@ module _ {n : ℕ} {w : List ℕ} {free : ℕ} {used : List ℕ} (s : Shared n w
 
   pub none-free : length used ≡ n → free ≡ n
   none-free = room-if n w free used (s .spare) (s .frees) (s .below) (s .all) .1
-
-  pub free-room : free < n → length used < n
-  free-room = room-if n w free used (s .spare) (s .frees) (s .below) (s .all) .2
 
   -- cell number n is neither in use nor free
   pub shared-distinct : Distinct (n ∷ (used ++ s .spare))

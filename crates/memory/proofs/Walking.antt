@@ -39,7 +39,7 @@ use Rattle.memory.proofs.Printing.{printed-ports, print-ports, length-p
 use Rattle.memory.proofs.Whole.{first-whole}
 
 -- the ports from one on up to a stop, in so many steps
-pub along : (w : List ℕ) → (stop steps port : ℕ) → List ℕ
+unfoldable pub along : (w : List ℕ) → (stop steps port : ℕ) → List ℕ
 along w stop zero port = []
 along w stop (suc k) port = cond (eqb port stop) [] (port ∷ along w stop k (link w port))
 

@@ -1,6 +1,6 @@
 -- The numbers of the lent cells with the outermost start behind them are one list: a link is read from it and stored to it
 -- in the same way, wherever it is kept.
-use Prim.Native.Nat.{ℕ, _+_, _*_, _≤_, _<_}
+use Prim.Native.Nat.{ℕ, _+_, _*_, _<_}
 use mathlib.Core.Path.{_≡_, refl, ap, sym, _∙_}
 use mathlib.Core.List.{List, [], _∷_, _++_, append-assoc}
 use native.Mathlib.Omega.{arith}

@@ -3,7 +3,7 @@
 -- next in the printed text: so a whole plan is one chain of ports, and the last item of a block links to that block's own `]`.
 -- The outermost sequence is the inside of a cell that is not lent, number n: its start links to the first port, and its
 -- close is the end mark.
-use Prim.Native.Nat.{ℕ, suc, _+_, _*_, _≤_, _<_}
+use Prim.Native.Nat.{ℕ, _+_, _*_, _≤_, _<_}
 use mathlib.Core.Path.{_≡_}
 use mathlib.Core.Logic.{_≢_, _⊎_}
 use mathlib.Core.List.{List, [], _∷_, _++_}

@@ -5,7 +5,7 @@ use mathlib.Core.Bool.{Bool, true, false, cond}
 use mathlib.Core.Logic.{_↔_}
 use mathlib.Core.List.{List, _++_}
 use lib.ListN.{length, drop}
-use lib.Dec.{leb, ltb}
+use lib.Dec.{ltb}
 use borrow.Author.Tests.{ltb-true, ltb-false, lt-ltb, le-ltb, le-leb, lt-leb}
 use Rattle.plan.specs.declared.Answer.{Answer}
 use Rattle.plan.specs.declared.Answer.the-variants.{Refused}
@@ -13,7 +13,7 @@ use Rattle.plan.specs.declared.Refusal.{Refusal}
 use Rattle.plan.specs.declared.Refusal.the-variants.{TooLong, BadArena, OutShort}
 use Rattle.plan.specs.Reading.{REFUSED, read}
 use Rattle.plan.specs.Refusals.{Refuses, too-long, bad-arena, bad-text}
-use Rattle.plan.specs.Services.{GIVES, Limits, Written, accept, write}
+use Rattle.plan.specs.Services.{GIVES, Limits, accept, write}
 use Rattle.plan.proofs.Refusals.{refused-injective, refused-row, row-refused}
 
 refused-refuses : (lim : Limits) (n : ℕ) (text : List ℕ) {r : Refusal} → accept lim n text ≡ REFUSED r → Refuses lim n text r

@@ -1,20 +1,16 @@
 -- A text without its blanks is made piece by piece: no token stands across the seam between two pieces without a fault.
-use Prim.Native.Nat.{ℕ, suc, _+_, _≤_}
+use Prim.Native.Nat.{ℕ, _+_}
 use mathlib.Core.Path.{_≡_, refl, ap, sym, _∙_}
 use mathlib.Core.Bool.{Bool, true, false, cond, _||_}
 use mathlib.Core.Logic.{_≢_, ⊎-elim}
 use mathlib.Core.List.{List, [], _∷_, _++_, append-assoc}
-use native.Mathlib.Omega.{arith}
-use native.Mathlib.Nat.{zero-add, suc-add}
-use lib.ListN.{length, length-append}
 use lib.Dec.{eqb}
 use borrow.Author.Tests.{ne-eqb}
 use Rattle.plan.specs.Plan.{open-brace, close-brace}
 use Rattle.plan.specs.Reading.{BRACE, BLANK, class, without-blanks}
-use Rattle.plan.specs.Refusals.{Faultless, nothing, blank, an-operator, a-token, opens, closes}
-use Rattle.plan.proofs.Classes.{class-byte, class-blank, clash, not-brace}
+use Rattle.plan.proofs.Classes.{class-byte, class-blank, not-brace}
 use Rattle.plan.proofs.Tests.{cond-cases}
-use Rattle.plan.proofs.Tokens.{NoBrace, allowed-no-brace}
+use Rattle.plan.proofs.Tokens.{NoBrace}
 
 -- one byte that is not `{` stands across no seam
 pub seam : (b : ℕ) (bs : List ℕ) → class b ≢ BRACE

@@ -2,7 +2,7 @@
 use Prim.Native.Nat.{ℕ}
 use mathlib.Core.Path.{_≡_, _∙_, refl, ap, subst}
 use mathlib.Core.Logic.{_⊎_, _≢_, inl, inr}
-use mathlib.Core.Bool.{Bool, true, false, cond, not, _||_}
+use mathlib.Core.Bool.{Bool, true, false, not, _||_}
 use lib.Dec.{T, T-not, eqb, eqb-refl}
 use borrow.Author.Tests.{eqb-true, ne-eqb}
 use Rattle.plan.specs.Plan.{Operator, op-a, op-b, op-c, op-d, letter, open-bracket, close-bracket, open-brace}

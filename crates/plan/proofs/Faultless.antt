@@ -11,7 +11,7 @@ use lib.ListN.{length, getD, take, length-append}
 use lib.Seq.{take-suc}
 use lib.Dec.{eqb}
 use Rattle.plan.specs.Plan.{open-brace, close-brace}
-use Rattle.plan.specs.Reading.{class, without-blanks}
+use Rattle.plan.specs.Reading.{without-blanks}
 use Rattle.plan.specs.Refusals.{Faultless, nothing, blank, an-operator, a-token, opens, closes}
 use Rattle.plan.proofs.Blanks.{seam, token-seam}
 use Rattle.plan.proofs.Classes.{class-byte, clash}

@@ -1,27 +1,10 @@
 -- Laws of a plan's parts: joining, cells, the printed text, labels.
-use Prim.Native.Nat.{ℕ, zero, suc, _+_}
+use Prim.Native.Nat.{ℕ, _+_}
 use mathlib.Core.Path.{_≡_, refl, ap}
-use mathlib.Core.List.{List, [], _∷_, _++_, append-assoc}
+use mathlib.Core.List.{_∷_, _++_, append-assoc}
 use native.Mathlib.Omega.{arith}
 use lib.ListN.{length, length-append}
-use Rattle.plan.specs.Plan.{
-  Plan,
-  end,
-  operator,
-  token,
-  block,
-  _then_,
-  cells,
-  letter,
-  print,
-  labels,
-  relabel,
-  bare,
-  open-bracket,
-  close-bracket,
-  open-brace,
-  close-brace,
-}
+use Rattle.plan.specs.Plan.{Plan, end, operator, token, block, _then_, cells, letter, print, labels, relabel}
 use Rattle.plan.specs.Token.{Allowed}
 
 module _ {L : Type 0} where

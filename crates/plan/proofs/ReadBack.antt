@@ -2,12 +2,11 @@
 -- the text without its blanks.
 use Prim.Native.Nat.{ℕ, suc, _+_, _*_, _≤_}
 use mathlib.Core.Path.{_≡_, refl, ap, ap₂, sym, subst, _∙_}
-use mathlib.Core.Bool.{Bool, true, false, cond}
+use mathlib.Core.Bool.{true, false}
 use mathlib.Core.List.{List, [], _∷_, _++_, append-nil, append-assoc}
 use native.Mathlib.Omega.{arith}
 use lib.ListN.{length, length-append}
-use lib.Dec.{leb}
-use borrow.Author.Tests.{leb-true, le-leb}
+use borrow.Author.Tests.{le-leb}
 use Rattle.plan.specs.Plan.{
   Plan,
   end,
@@ -26,27 +25,11 @@ use Rattle.plan.specs.Plan.{
   close-brace,
 }
 use Rattle.plan.specs.Token.{allowed, Allowed}
-use Rattle.plan.specs.Reading.{
-  Around,
-  outermost,
-  inside,
-  class,
-  go-on,
-  move,
-  past-token,
-  Reading,
-  PLAN,
-  REFUSED,
-  read-from,
-  fit,
-  read,
-  without-blanks,
-}
-use Rattle.plan.specs.Refusals.{Faultless}
+use Rattle.plan.specs.Reading.{Around, outermost, inside, go-on, move, past-token, PLAN, read-from, fit, read, without-blanks}
 use Rattle.plan.proofs.Classes.{class-letter, class-open, class-close, class-brace}
-use Rattle.plan.proofs.Plans.{then-end, then-assoc, cells-relabel, print-relabel}
-use Rattle.plan.proofs.Reached.{moved, skip-token, TextRead, text-read}
-use Rattle.plan.proofs.Refusals.{plan-injective, plan-is-no-refusal, read-faultless}
+use Rattle.plan.proofs.Plans.{then-end, then-assoc, cells-relabel}
+use Rattle.plan.proofs.Reached.{moved, skip-token, text-read}
+use Rattle.plan.proofs.Refusals.{plan-injective, read-faultless}
 use Rattle.plan.proofs.Tokens.{allowed-parts, token-text-at}
 
 -- a plan with the places that its items have in its printed text, if that begins at the place `at`

@@ -58,9 +58,8 @@ use Rattle.plan.specs.Refusals.{
 }
 use Rattle.plan.proofs.Options.{Each}
 use Rattle.plan.proofs.Plans.{length-labels}
-use Rattle.plan.proofs.Tests.{cond-cases}
 use Rattle.plan.proofs.Tokens.{Found, token-text-finds}
-use Rattle.plan.proofs.Reached.{depth, seen, Reached, reached, first-label, read-whole, TextRead, text-read}
+use Rattle.plan.proofs.Reached.{depth, seen, reached, first-label, read-whole, text-read}
 
 -- what reading says of bytes that begin at the place `from` with d blocks open
 data Verdict (limit from d : ℕ) (bs : List ℕ) : Reading → Type 0 where

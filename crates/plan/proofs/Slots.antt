@@ -9,7 +9,6 @@ use lib.ListN.{length}
 use lib.Dec.{ltb}
 use borrow.Author.Tests.{ltb-false, le-ltb}
 use Rattle.plan.specs.declared.Answer.{Answer}
-use Rattle.plan.specs.declared.Answer.the-variants.{Ran}
 use Rattle.plan.specs.declared.Ending.{Ending}
 use Rattle.plan.specs.declared.Refusal.{Refusal}
 use Rattle.plan.specs.declared.Refusal.the-variants.{TooLong, BadArena}
@@ -20,7 +19,7 @@ use Rattle.plan.specs.Running.{Ran as Run, RAN, run-plan}
 use Rattle.plan.specs.Services.{Limits, Outcome, REFUSES, GIVES, accept, as-run, run-read, runs, standard}
 use Rattle.plan.specs.Slots.{after, next-slot, plus-steps, slots, total}
 use Rattle.plan.proofs.Plans.{cells-relabel, print-relabel}
-use Rattle.plan.proofs.ReadBack.{Accepted, bare-placed, placed, print-bound, read-accepted, read-print}
+use Rattle.plan.proofs.ReadBack.{bare-placed, placed, print-bound, read-accepted, read-print}
 use Rattle.plan.proofs.Refusals.{plan-is-no-refusal}
 use Rattle.plan.proofs.Runs.{run-add, run-allowed, run-cells, run-relabel}
 

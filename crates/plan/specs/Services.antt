@@ -5,7 +5,6 @@ use mathlib.Core.List.{List, _++_}
 use lib.ListN.{length, drop, replicate}
 use lib.Dec.{leb, ltb}
 use Rattle.kinds.specs.Limits.{tokenLimit, cellLimit, textLimit}
-use Rattle.kinds.specs.declared.Place.{Place}
 use Rattle.plan.specs.declared.Answer.{Answer}
 use Rattle.plan.specs.declared.Answer.the-variants.{Ran, Read, Refused}
 use Rattle.plan.specs.declared.Ending.{Ending}

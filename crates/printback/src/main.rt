@@ -12,11 +12,12 @@ use memory::print_into;
 use reader::Surveyed;
 use reader::survey;
 
-const CELLS: usize = 4096;
+const CELLS: usize = Cell::LIMIT;
 
-const MEMORY: usize = 16384;
+const MEMORY: usize = 4 * CELLS;
 
-const OUTPUT: usize = 8192;
+// The deepest plan: a `[` and a `]` for each cell.
+const OUTPUT: usize = 2 * CELLS;
 
 // What printing back a text gives: the length of its printed text, or that it is refused.
 enum Back {

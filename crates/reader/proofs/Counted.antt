@@ -1,15 +1,14 @@
 -- Each answer of the reader's leaves is the case of its definition that the tests before it say.
 use Prim.Native.Nat.{ℕ, _+_, _-_, _<_, _≤_}
-use mathlib.Core.Path.{_≡_, refl, ap, sym, _∙_}
-use mathlib.Core.Bool.{Bool, true, false, cond}
+use mathlib.Core.Path.{_≡_, ap, sym, _∙_}
+use mathlib.Core.Bool.{Bool, true, false}
 use mathlib.Core.Logic.{_≢_}
 use native.Mathlib.Omega.{arith}
-use lib.Dec.{eqb}
 use borrow.Author.Tests.{eq-eqb, ne-eqb, lt-ltb, le-ltb}
 use Rattle.kinds.specs.declared.Place.{Place}
-use Rattle.plan.specs.Plan.{Operator, op-a, op-b, op-c, op-d, close-brace}
+use Rattle.plan.specs.Plan.{close-brace}
 use Rattle.plan.specs.Token.{may-hold}
-use Rattle.plan.specs.Reading.{Class, OPERATOR, OPEN, CLOSE, BRACE, BLANK, BAD, class, place}
+use Rattle.plan.specs.Reading.{CLOSE, class, place}
 use Rattle.plan.specs.declared.Character.{Character}
 use Rattle.plan.specs.declared.Character.the-variants.{Whole, Malformed}
 use Rattle.plan.specs.declared.Refusal.the-variants.{BadByte, Unmatched, Unclosed, Overfull}

@@ -3,62 +3,29 @@
 use Prim.Native.Nat.{ℕ, suc, _+_, _-_, _≤_, _<_}
 use mathlib.Core.Path.{_≡_, refl, ap, ap₂, sym, _∙_, subst}
 use mathlib.Core.Bool.{Bool, true, false, cond}
-use mathlib.Core.Logic.{_≢_, _↔_}
+use mathlib.Core.Logic.{_≢_}
 use mathlib.Core.List.{List, [], _∷_, _++_}
 use native.Mathlib.Omega.{arith}
 use native.Mathlib.Nat.{add-zero}
 use native.Mathlib.Numerals.{add-one}
-use lib.Dec.{eqb, leb, ltb}
+use lib.Dec.{eqb, ltb}
 use lib.ListN.{length, getD, take, drop, length-append}
 use lib.Seq.{take-all, split-at, length-take-le}
-use borrow.Author.Tests.{eqb-true, eqb-false, ltb-true, ltb-false, le-leb}
+use borrow.Author.Tests.{eqb-true, eqb-false, ltb-true, ltb-false}
 use Rattle.kinds.specs.Limits.{textLimit, tokenLimit}
-use Rattle.plan.specs.Plan.{cells, print}
-use Rattle.plan.specs.Reading.{
-  Class,
-  OPERATOR,
-  OPEN,
-  CLOSE,
-  BRACE,
-  BLANK,
-  BAD,
-  class,
-  place,
-  Reading,
-  PLAN,
-  REFUSED,
-  fit,
-  read,
-  without-blanks,
-}
-use Rattle.plan.specs.Refusals.{
-  Faultless,
-  nothing,
-  blank,
-  an-operator,
-  opens,
-  closes,
-  Fault,
-  bad-byte,
-  unmatched,
-  Begins,
-  Row,
-  fault,
-  unclosed,
-  overfull,
-}
+use Rattle.plan.specs.Plan.{cells}
+use Rattle.plan.specs.Reading.{Class, OPERATOR, OPEN, CLOSE, BRACE, BLANK, BAD, class, place, read, without-blanks}
+use Rattle.plan.specs.Refusals.{Faultless, nothing, blank, an-operator, opens, closes, Fault, bad-byte, unmatched, Begins, fault, unclosed, overfull}
 use Rattle.plan.specs.declared.Refusal.{Refusal}
-use Rattle.plan.specs.declared.Refusal.the-variants.{BadByte, Unmatched, Unclosed, Overfull}
+use Rattle.plan.specs.declared.Refusal.the-variants.{Unmatched, Unclosed, Overfull}
 use Rattle.plan.proofs.Blanks.{kept, dropped}
 use Rattle.plan.proofs.Classes.{clash}
 use Rattle.plan.proofs.Faultless.{take-one, faultless-then, blanks-then, faultless-bounds, without-blanks-length}
 use Rattle.plan.proofs.Reached.{TextRead, text-read, text-fits}
 use Rattle.plan.proofs.Refusals.{row-refused}
-use Rattle.reader.specs.Counting.{Small, one-item, deeper, opened, closed, stepped, finished, surveyed}
+use Rattle.reader.specs.Counting.{Small, one-item, closed, stepped, finished, surveyed}
 use Rattle.reader.specs.declared.Count.{Count}
-use Rattle.reader.specs.declared.Step.{Step}
 use Rattle.reader.specs.declared.Step.the-variants.{On, Token, Stop}
-use Rattle.reader.specs.declared.Surveyed.{Surveyed}
 use Rattle.reader.specs.declared.Surveyed.the-variants.{Accepted, Refused}
 
 -- item number `room` begins at the place `first`

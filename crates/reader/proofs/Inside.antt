@@ -12,10 +12,10 @@ use lib.ListN.{length, getD, take, drop, length-append, length-drop, take-append
 use lib.Seq.{drop-cons, drop-drop, length-take-le, split-at, take-add, take-at}
 use borrow.Author.Tests.{eqb-true, eqb-false, ltb-true, ltb-false}
 use Rattle.kinds.specs.Limits.{tokenLimit}
-use Rattle.plan.specs.Plan.{open-brace, close-brace}
+use Rattle.plan.specs.Plan.{close-brace}
 use Rattle.plan.specs.Token.{allowed, character, may-hold, token-text}
 use Rattle.plan.specs.Reading.{Class, OPERATOR, OPEN, CLOSE, BRACE, BLANK, BAD, class, place, read, without-blanks}
-use Rattle.plan.specs.Refusals.{Faultless, nothing, a-token, bad-token}
+use Rattle.plan.specs.Refusals.{nothing, a-token, bad-token}
 use Rattle.plan.specs.declared.Character.{Character}
 use Rattle.plan.specs.declared.Character.the-variants.{Whole, Malformed}
 use Rattle.plan.specs.declared.Refusal.the-variants.{BadToken, Unmatched}

@@ -1,7 +1,7 @@
 -- What the reader counts: the meaning of its leaves, each one equation. The laws in proofs/ tie them to reading.
-use Prim.Native.Nat.{ℕ, _+_, _-_, _<_, _≤_}
+use Prim.Native.Nat.{ℕ, _+_, _-_, _≤_}
 use mathlib.Core.Bool.{cond}
-use lib.Dec.{leb, ltb, eqb}
+use lib.Dec.{ltb, eqb}
 use lib.ListN.{length}
 use Rattle.kinds.specs.Limits.{textLimit}
 use Rattle.plan.specs.Plan.{cells, print, close-brace}

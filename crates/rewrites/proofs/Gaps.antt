@@ -1,18 +1,18 @@
 -- A place in a plan, behind items X and before items p of one sequence in a frame, and what may stand there: the chain, the
 -- labels and the items of the plan are those around the place and those of what stands there.
 use Prim.Native.Nat.{ℕ, _/_}
-use mathlib.Core.Path.{_≡_, refl, ap, sym, _∙_, subst}
+use mathlib.Core.Path.{_≡_, ap, sym, _∙_, subst}
 use mathlib.Core.Logic.{inl, inr}
 use mathlib.Core.List.{List, [], _∷_, _++_, append-assoc}
 use native.Mathlib.Omega.{arith}
 use Rattle.plan.specs.Plan.{Plan, end, operator, token, block, _then_, labels}
 use Rattle.plan.proofs.Plans.{labels-then}
-use Rattle.memory.specs.Memory.{start, close, ports, Absent, Distinct, Says, Shared}
-use Rattle.memory.proofs.Lists.{absent-join, absent-split, distinct-join}
+use Rattle.memory.specs.Memory.{start, close, ports, Absent, Distinct, Says}
+use Rattle.memory.proofs.Lists.{absent-join, distinct-join}
 use Rattle.memory.proofs.Ports.{close-absent, ports-absent, ports-distinct, ports-then, says-then, start-absent}
 use Rattle.memory.specs.Held.{BlockIn}
 use Rattle.hunt.specs.Frames.{Frame, top, within, plug, cell-of}
-use Rattle.hunt.proofs.Frames.{SaysAround, chain-plug, labels-plug, left, lefts, right, rights, says-around, says-plug, says-split}
+use Rattle.hunt.proofs.Frames.{chain-plug, labels-plug, left, lefts, right, rights, says-around, says-plug, says-split}
 use Rattle.rewrites.specs.Rules.{at-end}
 use Rattle.rewrites.proofs.Splicing.{first-split, last-split}
 

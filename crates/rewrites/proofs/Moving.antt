@@ -10,12 +10,12 @@ use Rattle.plan.specs.Plan.{Operator, Plan, end, operator, block, _then_, label
 use Rattle.plan.proofs.Plans.{labels-then, then-end}
 use Rattle.memory.specs.Memory.{start, close, link, ports, Linked, Says, Below, Absent, Distinct, Shared, Holds, last-of}
 use Rattle.memory.proofs.Freeing.{distinct-swap, shared-free, shared-swap}
-use Rattle.memory.proofs.Lists.{absent-join, absent-split, below-split, distinct-split, linked-beside}
+use Rattle.memory.proofs.Lists.{absent-split, below-split, distinct-split, linked-beside}
 use Rattle.memory.proofs.Ports.{Loose, close-loose, last-loose, says-link, start-loose}
 use Rattle.memory.proofs.Sharing.{shared-distinct, shared-used}
 use Rattle.blocks.proofs.Starts.{below-ports}
 use Rattle.hunt.specs.Frames.{Frame, top, within, plug, cell-of}
-use Rattle.hunt.proofs.Frames.{chain-plug, labels-plug, left, lefts, rights, says-around, says-split}
+use Rattle.hunt.proofs.Frames.{labels-plug, lefts, rights, says-around, says-split}
 use Rattle.rewrites.specs.Rules.{at-end}
 use Rattle.rewrites.specs.Splices.{cut, put-in, released, unwrapped}
 use Rattle.rewrites.proofs.Gaps.{chain-absent, chain-distinct, chain-of, Gap, gap, gap-replaced, gap-says}

@@ -1,13 +1,12 @@
 -- The four rules, once the operator is out of the plan: each is one or two of the moves.
-use Prim.Native.Nat.{ℕ, _+_, _≤_, _<_}
+use Prim.Native.Nat.{ℕ, _+_}
 use mathlib.Core.Path.{_≡_, refl, ap, sym, _∙_, subst}
 use mathlib.Core.Logic.{inl}
 use mathlib.Core.List.{List, [], _∷_, _++_}
-use native.Mathlib.Omega.{arith}
-use Rattle.plan.specs.Plan.{Operator, Plan, end, operator, block, _then_, bare, cells, labels, relabel}
+use Rattle.plan.specs.Plan.{Operator, Plan, end, operator, block, _then_, bare, labels, relabel}
 use Rattle.plan.proofs.Plans.{relabel-then, then-assoc, then-end}
 use Rattle.memory.specs.Held.{BlockIn}
-use Rattle.memory.specs.Memory.{start, close, ports, Below, Distinct, Holds, last-of}
+use Rattle.memory.specs.Memory.{start, close, ports, Holds, last-of}
 use Rattle.memory.proofs.Lists.{below-split, distinct-split, last-append}
 use Rattle.memory.proofs.Ports.{ports-then}
 use Rattle.blocks.specs.Blocks.{Alone, first-free, freed}

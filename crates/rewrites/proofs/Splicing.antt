@@ -1,7 +1,7 @@
 -- Ports cut out of a chain and ports put into it, on plain lists: the chain is linked again, and what does not stand in the
 -- chain at the place of a store keeps its links.
 use Prim.Native.Nat.{ℕ, _+_, _*_, _<_}
-use mathlib.Core.Path.{_≡_, refl, ap, sym, _∙_, subst}
+use mathlib.Core.Path.{_≡_, refl, ap, sym, subst}
 use mathlib.Core.List.{List, [], _∷_, _++_, append-assoc}
 use native.Mathlib.Omega.{arith}
 use lib.ListN.{length, set, length-set}

@@ -2,7 +2,7 @@
 -- what the rule says, of every plan that the memory held.
 use Prim.Native.Nat.{ℕ, _+_, _≤_, _<_}
 use mathlib.Core.Path.{_≡_, ap, ap₂, sym, _∙_, subst, subst₂}
-use mathlib.Core.List.{List, [], _∷_, _++_}
+use mathlib.Core.List.{List, _∷_, _++_}
 use native.Mathlib.Omega.{arith}
 use Rattle.kinds.specs.Limits.{cellLimit}
 use Rattle.kinds.specs.declared.Cell.{Cell}
@@ -21,11 +21,10 @@ use Rattle.copier.specs.declared.Copied.{Copied}
 use Rattle.hunt.specs.Frames.{Frame, within, plug}
 use Rattle.hunt.specs.Hunting.{held-numbers}
 use Rattle.hunt.proofs.Frames.{cells-plug}
-use Rattle.rewrites.specs.Rules.{DropBlock, OneBlock, Rewritten, RuleA, RuleB, RuleC, RuleD, TwoBlocks, at-end}
+use Rattle.rewrites.specs.Rules.{DropBlock, OneBlock, RuleA, RuleB, RuleC, RuleD, TwoBlocks, at-end}
 use Rattle.rewrites.specs.Splices.{Spliced, cut, moved, put-in, unwrapped}
 use Rattle.rewrites.proofs.Chained.{held-after, same-cells, splice-two, spliced-lent}
-use Rattle.rewrites.proofs.Moving.{Said, end-low, held-said}
-use Rattle.rewrites.proofs.Gaps.{gap-block}
+use Rattle.rewrites.proofs.Moving.{end-low, held-said}
 use Rattle.rewrites.proofs.Ruling.{applied, block-then, doubled, dropped, enclosed, out-alone, there}
 
 -- a block of a plan that is held is linked in itself

@@ -3,7 +3,7 @@
 use Prim.Native.Nat.{ℕ, _≤_}
 use mathlib.Core.Path.{_≡_}
 use mathlib.Core.List.{List}
-use Rattle.plan.specs.Plan.{Plan, end, block, _then_, bare, cells}
+use Rattle.plan.specs.Plan.{Plan, block, _then_, bare, cells}
 use Rattle.memory.specs.Held.{HeldIn}
 use Rattle.memory.specs.Memory.{start, ports, last-of}
 use Rattle.memory.specs.Model.{Lent}

@@ -2,27 +2,14 @@
 use Prim.Native.Nat.{ℕ, _≤_, _<_}
 use mathlib.Core.Path.{_≡_, refl, ap, ap₂, sym, _∙_}
 use mathlib.Core.Bool.{false}
-use mathlib.Core.List.{List, _++_}
+use mathlib.Core.List.{List}
 use native.Mathlib.Omega.{arith}
-use lib.ListN.{length, drop}
+use lib.ListN.{length}
 use borrow.Author.Tests.{lt-ltb, le-ltb}
 use Rattle.kinds.specs.Limits.{cellLimit, textLimit, tokenLimit}
-use Rattle.plan.specs.Plan.{Plan, cells, print}
+use Rattle.plan.specs.Plan.{cells, print}
 use Rattle.plan.specs.Reading.{Reading, PLAN, REFUSED, read, without-blanks}
-use Rattle.plan.specs.Services.{
-  GIVES,
-  REFUSES,
-  Written,
-  accept,
-  answer-of,
-  as-read,
-  check,
-  reads,
-  standard,
-  tidy,
-  write,
-}
-use Rattle.plan.specs.declared.Answer.{Answer}
+use Rattle.plan.specs.Services.{GIVES, REFUSES, accept, answer-of, as-read, check, reads, standard, tidy, write}
 use Rattle.plan.specs.declared.Answer.the-variants.{Read, Refused}
 use Rattle.plan.specs.declared.Refusal.{Refusal}
 use Rattle.plan.specs.declared.Refusal.the-variants.{BadArena, OutShort, TooLong}

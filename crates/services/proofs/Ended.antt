@@ -1,20 +1,19 @@
 -- RUN, part by part: what the run in the memory ended with is what the definition's run of the accepted plan gives, since no run
 -- looks at a label; it is never too long to be printed; and what is printed is what the definition writes.
-use Prim.Native.Nat.{ℕ, _+_, _*_, _/_, _≤_, _<_}
+use Prim.Native.Nat.{ℕ, _+_, _/_, _≤_, _<_}
 use mathlib.Core.Path.{_≡_, refl, ap, ap₂, sym, _∙_, subst}
 use mathlib.Core.List.{List, _++_}
 use native.Mathlib.Omega.{arith}
 use native.Mathlib.Nat.{le-trans, mul-le-mul-left}
 use lib.ListN.{length, drop, replicate}
-use Rattle.kinds.specs.Limits.{cellLimit, textLimit, tokenLimit}
+use Rattle.kinds.specs.Limits.{cellLimit, tokenLimit}
 use Rattle.kinds.specs.declared.Cell.{Cell}
 use Rattle.plan.specs.Plan.{Plan, bare, cells, print}
 use Rattle.plan.specs.Reading.{Reading, PLAN, REFUSED, read}
 use Rattle.plan.specs.Running.{Ran as Run, RAN, run-plan}
-use Rattle.plan.specs.Services.{GIVES, Outcome, REFUSES, accept, as-run, cleared, run, run-read, runs, standard, write}
+use Rattle.plan.specs.Services.{GIVES, accept, as-run, cleared, run, run-read, runs, standard, write}
 use Rattle.plan.specs.declared.Answer.{Answer}
 use Rattle.plan.specs.declared.Answer.the-variants.{Ran, Refused}
-use Rattle.plan.specs.declared.Ending.{Ending}
 use Rattle.plan.specs.declared.Refusal.{Refusal}
 use Rattle.plan.specs.declared.Refusal.the-variants.{OutShort}
 use Rattle.plan.proofs.Answers.{write-fits, write-short}

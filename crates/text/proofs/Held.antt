@@ -1,7 +1,7 @@
 -- Whether a token may hold the character of a value, by the value's range: each case of the definition under the tests
 -- that the code makes.
 use Prim.Native.Nat.{ℕ, _≤_, _<_}
-use mathlib.Core.Path.{_≡_, refl}
+use mathlib.Core.Path.{_≡_}
 use mathlib.Core.Logic.{_≢_}
 use mathlib.Core.Bool.{true, false}
 use native.Mathlib.Omega.{arith}

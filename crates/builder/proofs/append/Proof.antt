@@ -1,6 +1,7 @@
 -- `append`: the one store is that of the link.
 use mathlib.Core.Path.{refl}
 use borrow.Author.Needs.{needs}
+use Rattle.builder.proofs.Stepping.{appended}
 use Rattle.builder.proofs.append.Statement.{statement}
 use Rattle.builder.proofs.append.Tie as tie
 
@@ -14,7 +15,7 @@ same-length : tie.Need-same-length
 same-length c = search needs
 
 returns : tie.Need-returns
-returns c = record { steps = cc; outer = refl; aside = search needs }
+returns c = record { steps = search (needs, appended); outer = refl; aside = search needs }
 
 pub append-spec : {M : Type 1} → statement M
 append-spec = tie.close (tie.spec start-requires set-link-requires same-length returns)

@@ -1,6 +1,7 @@
 -- `close_block`: the cell around is read before the link is stored; as in the model.
 use mathlib.Core.Path.{refl}
 use borrow.Author.Needs.{needs}
+use Rattle.builder.proofs.Stepping.{closed}
 use Rattle.builder.proofs.close_block.Statement.{statement}
 use Rattle.builder.proofs.close_block.Tie as tie
 
@@ -17,7 +18,7 @@ same-length : tie.Need-same-length
 same-length c = search needs
 
 returns : tie.Need-returns
-returns c = record { steps = cc; outer = refl; aside = search needs }
+returns c = record { steps = search (needs, closed); outer = refl; aside = search needs }
 
 pub close-block-spec : {M : Type 1} → statement M
 close-block-spec =

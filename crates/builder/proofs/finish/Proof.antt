@@ -1,6 +1,7 @@
 -- `finish`: the one store is that of the link to the end mark.
 use mathlib.Core.Path.{refl}
 use borrow.Author.Needs.{needs}
+use Rattle.builder.proofs.Stepping.{ended}
 use Rattle.builder.proofs.finish.Statement.{statement}
 use Rattle.builder.proofs.finish.Tie as tie
 
@@ -14,7 +15,7 @@ same-length : tie.Need-same-length
 same-length c = search needs
 
 returns : tie.Need-returns
-returns c = record { ends = cc; outer = refl; free = refl; aside = search needs }
+returns c = record { ends = search (needs, ended); outer = refl; free = refl; aside = search needs }
 
 pub finish-spec : {M : Type 1} → statement M
 finish-spec = tie.close (tie.spec close-requires set-link-requires same-length returns)

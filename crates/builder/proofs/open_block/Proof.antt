@@ -1,6 +1,7 @@
 -- `open_block`: the kind is stored, then the block that was open, then the link; as in the model.
 use Rattle.memory.proofs.Whole.{aside-on}
 use borrow.Author.Needs.{needs}
+use Rattle.builder.proofs.Stepping.{block-put}
 use Rattle.builder.proofs.open_block.Statement.{statement}
 use Rattle.builder.proofs.open_block.Tie as tie
 
@@ -29,7 +30,7 @@ same-length : tie.Need-same-length
 same-length c = search needs
 
 returns : tie.Need-returns
-returns c = record { steps = cc; outer = search needs; aside = search (needs, aside-on) }
+returns c = record { steps = search (needs, block-put); outer = search needs; aside = search (needs, aside-on) }
 
 pub open-block-spec : {M : Type 1} → statement M
 open-block-spec =

@@ -1,6 +1,7 @@
 -- `set_place`: two stores of the whole list, one after the other.
 use Rattle.memory.proofs.Whole.{aside-on}
 use borrow.Author.Needs.{needs}
+use Rattle.builder.proofs.Stepping.{place-stored}
 use Rattle.builder.proofs.set_place.Statement.{statement}
 use Rattle.builder.proofs.set_place.Tie as tie
 
@@ -32,7 +33,7 @@ same-length : tie.Need-same-length
 same-length c = search needs
 
 returns : tie.Need-returns
-returns c = (cc, search (needs, aside-on))
+returns c = (search (needs, place-stored), search (needs, aside-on))
 
 pub set-place-spec : {M : Type 1} → statement M
 set-place-spec =

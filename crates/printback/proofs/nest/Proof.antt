@@ -1,14 +1,15 @@
 -- `nest`: the loop comes nearer to the deepest block with each turn.
 use Prim.Native.Nat.{_-_, _≤_}
 use borrow.Author.Needs.{needs}
+use Rattle.kinds.specs.Limits.{cellLimit}
 use Rattle.printback.proofs.nest.Statement.{statement}
 use Rattle.printback.proofs.nest.Tie as tie
 
 abbrev Inv-loop : tie.InvT-loop
-Inv-loop text₀ at₀ text at = (at ≤ 4096)
+Inv-loop text₀ at₀ text at = (at ≤ cellLimit)
 
 abbrev μ-loop : tie.MeasureT-loop
-μ-loop text₀ at₀ text at = 4096 - at
+μ-loop text₀ at₀ text at = cellLimit - at
 
 loop-holds : tie.Need-loop-holds Inv-loop μ-loop
 loop-holds c = search needs
