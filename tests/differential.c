@@ -1,0 +1,198 @@
+/* Compares the proved library with its twin over the C interface.
+
+       differential SEED COUNT
+
+   A case is one text, for which CHECK, TIDY and RUN are called, and compared: the five numbers, every byte of the outputs
+   and a few behind them, and every number of the work memory, which is to be 0. The first difference is told in full and ends
+   the program with status 1. At last a plan nested to the limit is run on a small stack. */
+#include "generator.h"
+#include "small_stack.h"
+#include "turnip.h"
+#include "twin.h"
+
+#include <inttypes.h>
+#include <stdbool.h>
+#include <stdio.h>
+#include <stdlib.h>
+#include <string.h>
+
+/* What is lent is followed by this many elements that no call may touch. */
+enum { GUARD = 16 };
+
+enum service { CHECK, TIDY, RUN, SERVICES };
+
+static const char *const service_names[] = {"CHECK", "TIDY", "RUN"};
+
+static struct text text;
+static uint32_t memory[MEMORY_ROOM + GUARD];
+static uint8_t our_out[OUT_ROOM + GUARD], twin_out[OUT_ROOM + GUARD];
+static unsigned long seen[SERVICES][TURNIP_OUTSHORT + 1];
+static uint64_t rewrites, most_rewrites;
+
+struct numbered_case {
+    uint64_t seed;
+    uint64_t number;
+    uint32_t quota;
+    size_t memory_length;
+    size_t out_length;
+    uint32_t salt; /* what memory and output hold before a call depends on this */
+};
+
+static void tell_answer(const char *whose, const uint32_t answer[5])
+{
+    printf("%s: %" PRIu32 " %" PRIu32 " %" PRIu32 " %" PRIu32 " %" PRIu32 "\n", whose, answer[0], answer[1], answer[2],
+           answer[3], answer[4]);
+}
+
+static void tell_difference(const struct numbered_case *made, enum service service, const char *what, const uint32_t ours[5],
+                            const uint32_t twins[5])
+{
+    printf("DIFFERENCE in the %s: SEED %" PRIu64 " case %" PRIu64 ", %s\n", what, made->seed, made->number,
+           service_names[service]);
+    printf("quota %" PRIu32 ", memory %zu numbers, output %zu bytes, text of %zu bytes:\n", made->quota,
+           made->memory_length, made->out_length, text.length);
+    for (size_t i = 0; i < text.length; i++)
+        printf("%02x", text.bytes[i]);
+    printf("\n");
+    tell_answer("library", ours);
+    tell_answer("twin", twins);
+    exit(1);
+}
+
+static void compare(const struct numbered_case *made, enum service service, const uint32_t ours[5], const uint32_t twins[5])
+{
+    if (memcmp(ours, twins, 5 * sizeof *ours) != 0)
+        tell_difference(made, service, "five numbers", ours, twins);
+    if (service != CHECK && memcmp(our_out, twin_out, made->out_length + GUARD) != 0)
+        tell_difference(made, service, "output", ours, twins);
+    if (ours[TURNIP_NUMBER] <= TURNIP_OUTSHORT)
+        seen[service][ours[TURNIP_NUMBER]]++;
+    rewrites += ours[TURNIP_STEPS];
+    if (ours[TURNIP_STEPS] > most_rewrites)
+        most_rewrites = ours[TURNIP_STEPS];
+}
+
+static uint32_t other_number(const struct numbered_case *made, size_t at)
+{
+    return (made->salt + (uint32_t)at) * 2654435761u | 1;
+}
+
+static void fill_outputs(const struct numbered_case *made)
+{
+    for (size_t i = 0; i < made->out_length + GUARD; i++)
+        our_out[i] = twin_out[i] = (uint8_t)(other_number(made, i) >> 24);
+}
+
+static void fill_memory(const struct numbered_case *made)
+{
+    for (size_t i = 0; i < made->memory_length + GUARD; i++)
+        memory[i] = other_number(made, i);
+}
+
+static bool memory_as_promised(const struct numbered_case *made)
+{
+    for (size_t i = 0; i < made->memory_length; i++)
+        if (memory[i] != 0)
+            return false;
+    for (size_t i = made->memory_length; i < made->memory_length + GUARD; i++)
+        if (memory[i] != other_number(made, i))
+            return false;
+    return true;
+}
+
+/* An answer that no call leaves behind. */
+static void spoil(uint32_t answer[5])
+{
+    for (int i = 0; i < 5; i++)
+        answer[i] = 0xdeadbeef;
+}
+
+static void check_and_tidy(struct draws *draws, struct numbered_case *made, const struct twin_result *result)
+{
+    uint32_t ours[5], twins[5];
+    spoil(ours);
+    turnip_check(text.bytes, text.length, ours);
+    twin_tell(result, twins);
+    compare(made, CHECK, ours, twins);
+
+    made->out_length = make_out_length(draws, result->length);
+    fill_outputs(made);
+    spoil(ours);
+    turnip_tidy(text.bytes, text.length, our_out, made->out_length, ours);
+    twin_write(result, twin_out, made->out_length, twins);
+    compare(made, TIDY, ours, twins);
+}
+
+/* The twin's run, and quota and memory of it: of a run that ends by itself, often one at the edge of its quota. */
+static struct twin_result twin_run_drawn(struct draws *draws, struct numbered_case *made, size_t cells)
+{
+    made->quota = make_quota(draws, cells);
+    size_t most = cells;
+    if (below(draws, 3) == 0) {
+        struct twin_result trial = twin_run(text.bytes, text.length, made->quota, 4 * CELLS_AT_MOST);
+        most = trial.most;
+        twin_free(&trial);
+    }
+    made->memory_length = make_memory_length(draws, cells, most);
+    struct twin_result result = twin_run(text.bytes, text.length, made->quota, made->memory_length);
+    bool by_itself = result.number == TURNIP_DONE || result.number == TURNIP_FULL;
+    if (by_itself && below(draws, 3) == 0) {
+        made->quota = edge_quota(draws, result.steps);
+        twin_free(&result);
+        result = twin_run(text.bytes, text.length, made->quota, made->memory_length);
+    }
+    return result;
+}
+
+static void run(struct draws *draws, struct numbered_case *made, size_t cells)
+{
+    uint32_t ours[5], twins[5];
+    struct twin_result result = twin_run_drawn(draws, made, cells);
+    made->out_length = make_out_length(draws, result.length);
+    fill_outputs(made);
+    fill_memory(made);
+    spoil(ours);
+    turnip_run(text.bytes, text.length, made->quota, memory, made->memory_length, our_out, made->out_length, ours);
+    twin_write(&result, twin_out, made->out_length, twins);
+    compare(made, RUN, ours, twins);
+    if (!memory_as_promised(made))
+        tell_difference(made, RUN, "work memory", ours, twins);
+    twin_free(&result);
+}
+
+static void compare_case(uint64_t seed, uint64_t number)
+{
+    struct draws draws = draws_for(seed, number);
+    struct numbered_case made = {.seed = seed, .number = number, .salt = (uint32_t)number};
+    make_text(&draws, &text);
+    struct twin_result result = twin_read(text.bytes, text.length);
+    check_and_tidy(&draws, &made, &result);
+    run(&draws, &made, result.cells);
+    twin_free(&result);
+}
+
+static void tell_seen(void)
+{
+    for (int service = 0; service < SERVICES; service++) {
+        printf("%s answered", service_names[service]);
+        for (int number = 0; number <= TURNIP_OUTSHORT; number++)
+            if (seen[service][number] > 0)
+                printf("  %d: %lu", number, seen[service][number]);
+        printf("\n");
+    }
+    printf("rewrites %" PRIu64 ", at most %" PRIu64 " in one run\n", rewrites, most_rewrites);
+}
+
+int main(int count, char **words)
+{
+    if (count != 3) {
+        fputs("usage: differential SEED COUNT\n", stderr);
+        return 2;
+    }
+    uint64_t seed = strtoull(words[1], NULL, 10), cases = strtoull(words[2], NULL, 10);
+    for (uint64_t number = 0; number < cases; number++)
+        compare_case(seed, number);
+    tell_seen();
+    printf("SEED %" PRIu64 " COUNT %" PRIu64 " cases, 0 differences\n", seed, cases);
+    return nested_on_small_stack() ? 0 : 1;
+}

@@ -1,0 +1,489 @@
+/* How the cases are made. A shape is drawn first: plans at random, pieces of known combinators, plans that double, deep
+   nesting, tokens at their limits, texts at theirs, damaged texts. Sizes are small most often, since many short runs reach
+   more corners than few long ones. Bytes past a text's room are dropped, so no shape has to count. */
+#include "generator.h"
+
+#include <stdbool.h>
+#include <string.h>
+
+/* splitmix64 */
+static uint64_t draw(struct draws *draws)
+{
+    uint64_t z = draws->state += 0x9e3779b97f4a7c15u;
+    z = (z ^ (z >> 30)) * 0xbf58476d1ce4e5b9u;
+    z = (z ^ (z >> 27)) * 0x94d049bb133111ebu;
+    return z ^ (z >> 31);
+}
+
+struct draws draws_for(uint64_t seed, uint64_t number)
+{
+    struct draws of_seed = {seed};
+    return (struct draws){draw(&of_seed) + number * 0xd1342543de82ef95u};
+}
+
+size_t below(struct draws *draws, size_t bound)
+{
+    return bound == 0 ? 0 : (size_t)(draw(draws) % bound);
+}
+
+static bool one_in(struct draws *draws, size_t n)
+{
+    return below(draws, n) == 0;
+}
+
+/* A text in the making. */
+struct maker {
+    struct draws *draws;
+    struct text *text;
+    size_t blanks;      /* a blank before an item, one time in so many; 0: never */
+    size_t fancy;       /* a token of many kinds of characters, one time in so many; 0: never */
+    const char *letters; /* the operators, some more often than others */
+};
+
+static void put(struct maker *maker, uint8_t byte)
+{
+    if (maker->text->length < TEXT_ROOM)
+        maker->text->bytes[maker->text->length++] = byte;
+}
+
+static void put_bytes(struct maker *maker, const void *bytes, size_t length)
+{
+    for (size_t i = 0; i < length; i++)
+        put(maker, ((const uint8_t *)bytes)[i]);
+}
+
+static void put_string(struct maker *maker, const char *string)
+{
+    put_bytes(maker, string, strlen(string));
+}
+
+static void put_times(struct maker *maker, const char *string, size_t times)
+{
+    for (size_t i = 0; i < times; i++)
+        put_string(maker, string);
+}
+
+/* A code point as UTF-8 would have it, also one that UTF-8 does not allow. */
+static void put_code(struct maker *maker, uint32_t code)
+{
+    if (code < 0x80) {
+        put(maker, (uint8_t)code);
+    } else if (code < 0x800) {
+        put(maker, (uint8_t)(0xc0 | code >> 6));
+        put(maker, (uint8_t)(0x80 | (code & 0x3f)));
+    } else if (code < 0x10000) {
+        put(maker, (uint8_t)(0xe0 | code >> 12));
+        put(maker, (uint8_t)(0x80 | (code >> 6 & 0x3f)));
+        put(maker, (uint8_t)(0x80 | (code & 0x3f)));
+    } else {
+        put(maker, (uint8_t)(0xf0 | code >> 18));
+        put(maker, (uint8_t)(0x80 | (code >> 12 & 0x3f)));
+        put(maker, (uint8_t)(0x80 | (code >> 6 & 0x3f)));
+        put(maker, (uint8_t)(0x80 | (code & 0x3f)));
+    }
+}
+
+/* An allowed character near an edge of what is allowed. */
+static uint32_t good_code(struct draws *draws)
+{
+    static const uint32_t codes[] = {' ', '!', 'a', 'c', '[', ']', 'z', '|', '~', 0xa0, 0xe9, 0x7ff, 0x800, 0x20ac, 0xd7ff,
+                                     0xe000, 0xfffc, 0xfffe, 0xffff, 0x10000, 0x1f600, 0xfffff, 0x100000, 0x10ffff};
+    return codes[below(draws, sizeof codes / sizeof *codes)];
+}
+
+static size_t width_of(uint32_t code)
+{
+    return code < 0x80 ? 1 : code < 0x800 ? 2 : code < 0x10000 ? 3 : 4;
+}
+
+/* A token of so many bytes, of allowed characters as long as they fit, and then of letters. */
+static void put_long_token(struct maker *maker, size_t length)
+{
+    size_t left = length - 2;
+    put(maker, '{');
+    while (left > 0) {
+        uint32_t code = good_code(maker->draws);
+        if (width_of(code) > left)
+            code = 'x';
+        put_code(maker, code);
+        left -= width_of(code);
+    }
+    put(maker, '}');
+}
+
+static void put_token(struct maker *maker)
+{
+    if (maker->fancy != 0 && one_in(maker->draws, maker->fancy)) {
+        put_long_token(maker, one_in(maker->draws, 4) ? 64 : 3 + below(maker->draws, 62));
+        return;
+    }
+    put(maker, '{');
+    put(maker, (uint8_t)('p' + below(maker->draws, 10)));
+    put(maker, '}');
+}
+
+static void put_blanks(struct maker *maker)
+{
+    while (maker->blanks != 0 && one_in(maker->draws, maker->blanks))
+        put(maker, one_in(maker->draws, 3) ? '\n' : ' ');
+}
+
+static void put_operator(struct maker *maker)
+{
+    put_blanks(maker);
+    put(maker, (uint8_t)maker->letters[below(maker->draws, strlen(maker->letters))]);
+}
+
+static void put_items(struct maker *maker, size_t items);
+
+/* A block, and inside it so many items, those of inner blocks counted too. */
+static void put_block(struct maker *maker, size_t inside)
+{
+    put_blanks(maker);
+    put(maker, '[');
+    put_items(maker, inside);
+    put_blanks(maker);
+    put(maker, ']');
+}
+
+/* Items at random, about so many. A block is often followed by what takes it. */
+static void put_items(struct maker *maker, size_t items)
+{
+    while (items > 0) {
+        size_t inside = below(maker->draws, items < 40 ? items : 40);
+        items--;
+        switch (below(maker->draws, 10)) {
+        case 0: case 1:
+            put_block(maker, inside);
+            items -= inside;
+            break;
+        case 2: case 3: case 4: case 5:
+            put_block(maker, inside / 2);
+            put_block(maker, inside - inside / 2);
+            put_operator(maker);
+            items -= inside;
+            break;
+        case 6:
+            put_blanks(maker);
+            put_token(maker);
+            break;
+        default:
+            put_operator(maker);
+        }
+    }
+    put_blanks(maker);
+}
+
+static void small_plan(struct maker *maker)
+{
+    put_items(maker, below(maker->draws, one_in(maker->draws, 3) ? 60 : 20));
+}
+
+static void medium_plan(struct maker *maker)
+{
+    put_items(maker, 60 + below(maker->draws, 400));
+}
+
+/* About as many cells as there may be. */
+static void large_plan(struct maker *maker)
+{
+    put_items(maker, 2400 + below(maker->draws, 800));
+}
+
+/* Pieces of combinators, one after another, some in a block. */
+static void pieces(struct maker *maker)
+{
+    static const char *const known[] = {"[]", "[{x}]", "[{y}]", "[[]d]", "[c]", "[a]", "[d]", "[b]", "[ca]", "[cb]", "[][]baad",
+                                        "[]ba", "[[c]ab[]ba]a[][]baad", "a", "b", "c", "d", "cb", "[[a]b]", "[[]ba]a", "{t}"};
+    for (size_t left = 1 + below(maker->draws, 12); left > 0; left--) {
+        const char *piece = known[below(maker->draws, sizeof known / sizeof *known)];
+        bool inside = one_in(maker->draws, 4);
+        put_blanks(maker);
+        if (inside)
+            put(maker, '[');
+        put_string(maker, piece);
+        if (inside)
+            put(maker, ']');
+    }
+}
+
+/* Plans that grow: one that makes itself again with every round, and blocks that double. */
+static void doubling(struct maker *maker)
+{
+    size_t times = below(maker->draws, 14);
+    switch (below(maker->draws, 4)) {
+    case 0:
+        put_string(maker, "[c[][]baad]c[][]baad");
+        break;
+    case 1:
+        put_items(maker, below(maker->draws, 4));
+        put_string(maker, "[[c[][]baad]c[][]baad]");
+        put_items(maker, below(maker->draws, 4));
+        break;
+    case 2:
+        put_block(maker, below(maker->draws, 6));
+        put_times(maker, "cb", times);
+        break;
+    default:
+        put_block(maker, 1 + below(maker->draws, 6));
+        put_times(maker, "c", times);
+        put_times(maker, "b", below(maker->draws, times + 1));
+    }
+}
+
+/* Blocks in blocks, up to the limit and over it, with something to do at the bottom and behind. */
+static void nested(struct maker *maker)
+{
+    size_t depth = one_in(maker->draws, 3) ? 4080 + below(maker->draws, 20) : 1 + below(maker->draws, 300);
+    size_t closed = one_in(maker->draws, 12) ? depth - 1 + below(maker->draws, 3) : depth;
+    put_times(maker, "[", depth);
+    put_items(maker, below(maker->draws, 6));
+    put_times(maker, "]", closed);
+    put_items(maker, below(maker->draws, 4));
+}
+
+/* A character, or bytes that are none, that no token may hold. */
+static void put_bad_character(struct maker *maker)
+{
+    static const char *const bad[] = {"\x80", "\xbf", "\xc0\x80", "\xc1\xbf", "\xc2", "\xe0\x80\x80", "\xe0\x9f\xbf", "\xe2\x82",
+                                      "\xed\xa0\x80", "\xed\xbf\xbf", "\xf0\x80\x80\x80", "\xf0\x8f\xbf\xbf", "\xf0\x9f\x98",
+                                      "\xf4\x90\x80\x80", "\xf5\x80\x80\x80", "\xf8\x88\x80\x80\x80", "\xfe", "\xff",
+                                      "\xef\xbf\xbd", "{", "\x7f", "\n", "\xc2\x80", "\xc2\x9f", "\xed\xa0\xbd\xed\xb8\x80",
+                                      "\xc0\xa0", "\xc1\x81", "\xe0\x81\x81", "\xf0\x80\x81\x81", "\xf0\x82\x82\xac"};
+    if (one_in(maker->draws, 4))
+        put(maker, (uint8_t)below(maker->draws, 32));
+    else if (one_in(maker->draws, 4))
+        put_code(maker, (uint32_t)(0x7f + below(maker->draws, 0x21)));
+    else if (one_in(maker->draws, 6))
+        put_code(maker, (uint32_t)(0xd800 + below(maker->draws, 0x800)));
+    else
+        put_string(maker, bad[below(maker->draws, sizeof bad / sizeof *bad)]);
+}
+
+/* A { that opens no allowed token, but for the last kind, which is at random. */
+static void put_bad_token(struct maker *maker)
+{
+    size_t before = below(maker->draws, 8), behind = below(maker->draws, 8);
+    switch (below(maker->draws, 6)) {
+    case 0:
+        put_string(maker, "{}");
+        break;
+    case 1:
+        put_long_token(maker, 65 + below(maker->draws, 3));
+        break;
+    case 2:
+        put_string(maker, "{x");
+        break;
+    case 3: case 4:
+        put(maker, '{');
+        put_times(maker, "x", before);
+        put_bad_character(maker);
+        put_times(maker, "y", behind);
+        put(maker, '}');
+        break;
+    default:
+        put(maker, '{');
+        for (size_t i = 0; i < 1 + before; i++)
+            put(maker, (uint8_t)(0x80 + below(maker->draws, 128)));
+        put(maker, '}');
+    }
+}
+
+/* Tokens near their limits among a few items. */
+static void tokens(struct maker *maker)
+{
+    maker->fancy = 1;
+    for (size_t left = below(maker->draws, 5); left > 0; left--) {
+        put_items(maker, below(maker->draws, 4));
+        if (one_in(maker->draws, 3))
+            put_long_token(maker, 62 + below(maker->draws, 4));
+        else
+            put_token(maker);
+    }
+    if (one_in(maker->draws, 2))
+        put_bad_token(maker);
+    put_items(maker, below(maker->draws, 4));
+}
+
+/* Bytes at random, most of them such as plans are made of. */
+static void scribble(struct maker *maker)
+{
+    static const char usual[] = "abcd[[[]]]{}x \n";
+    for (size_t left = below(maker->draws, 24); left > 0; left--) {
+        if (one_in(maker->draws, 40))
+            put(maker, (uint8_t)below(maker->draws, 256));
+        else
+            put(maker, (uint8_t)usual[below(maker->draws, sizeof usual - 1)]);
+    }
+}
+
+/* A text of the longest length, or one byte longer or shorter: a small plan and then blanks, blocks that open, operators, or
+   tokens. */
+static void longest(struct maker *maker)
+{
+    static const char *const filling[] = {" ", "[", "a", "{x}", "[]", "\n"};
+    const char *fill = filling[below(maker->draws, sizeof filling / sizeof *filling)];
+    size_t length = TEXT_LIMIT_BYTES - 1 + below(maker->draws, 3);
+    if (one_in(maker->draws, 2))
+        fill = " ";
+    small_plan(maker);
+    while (maker->text->length < length)
+        put_string(maker, fill);
+    maker->text->length = length;
+}
+
+/* Puts what a maker puts at the end of the text somewhere else instead. */
+static void put_inside(struct maker *maker, void (*what)(struct maker *))
+{
+    struct text *text = maker->text;
+    uint8_t moved[256];
+    size_t length = text->length, at = below(maker->draws, length + 1);
+    what(maker);
+    size_t added = text->length - length;
+    if (added > sizeof moved)
+        return;
+    memcpy(moved, text->bytes + length, added);
+    memmove(text->bytes + at + added, text->bytes + at, length - at);
+    memcpy(text->bytes + at, moved, added);
+}
+
+static void put_any_byte(struct maker *maker)
+{
+    put(maker, (uint8_t)below(maker->draws, 256));
+}
+
+static void put_mark(struct maker *maker)
+{
+    put(maker, (uint8_t)"[]{}"[below(maker->draws, 4)]);
+}
+
+static void damage(struct maker *maker)
+{
+    struct text *text = maker->text;
+    size_t at = below(maker->draws, text->length);
+    switch (below(maker->draws, 7)) {
+    case 0:
+        if (text->length > 0)
+            text->bytes[at] = (uint8_t)below(maker->draws, 256);
+        break;
+    case 1:
+        put_inside(maker, put_any_byte);
+        break;
+    case 2: case 3:
+        put_inside(maker, put_mark);
+        break;
+    case 4:
+        put_inside(maker, put_bad_token);
+        break;
+    case 5:
+        text->length = at;
+        break;
+    default:
+        if (text->length > 0) {
+            memmove(text->bytes + at, text->bytes + at + 1, text->length - at - 1);
+            text->length--;
+        }
+    }
+}
+
+static void damaged(struct maker *maker)
+{
+    small_plan(maker);
+    for (size_t left = 1 + below(maker->draws, 3); left > 0; left--)
+        damage(maker);
+}
+
+void make_text(struct draws *draws, struct text *text)
+{
+    static const char *const letters[] = {"abcd", "abd", "aabbcd", "abcccd", "bd", "ab"};
+    struct maker maker = {draws, text, 0, 0, letters[below(draws, sizeof letters / sizeof *letters)]};
+    text->length = 0;
+    if (one_in(draws, 3))
+        maker.blanks = 2 + below(draws, 8);
+    if (one_in(draws, 8))
+        maker.fancy = 3;
+    size_t shape = below(draws, 2000);
+    if (shape < 820)
+        small_plan(&maker);
+    else if (shape < 1120)
+        pieces(&maker);
+    else if (shape < 1280)
+        doubling(&maker);
+    else if (shape < 1360)
+        medium_plan(&maker);
+    else if (shape < 1420)
+        nested(&maker);
+    else if (shape < 1830)
+        damaged(&maker);
+    else if (shape < 1930)
+        tokens(&maker);
+    else if (shape < 1994)
+        scribble(&maker);
+    else if (shape < 1998)
+        large_plan(&maker);
+    else
+        longest(&maker);
+}
+
+static size_t make_n(struct draws *draws, size_t cells, size_t most)
+{
+    switch (below(draws, 16)) {
+    case 0: return cells;
+    case 1: return cells == 0 ? 0 : cells - 1;
+    case 2: case 3: return cells + below(draws, 8);
+    case 4: case 5: return most;
+    case 6: return most > cells ? most - 1 : most;
+    case 7: return most + 1;
+    case 8: return below(draws, cells + 1);
+    case 9: case 10: return cells + below(draws, 2 * cells + 4);
+    case 11: return below(draws, CELLS_AT_MOST + 1);
+    case 12: return CELLS_AT_MOST;
+    default: return most + below(draws, 60);
+    }
+}
+
+size_t make_memory_length(struct draws *draws, size_t cells, size_t most)
+{
+    size_t length = 4 * make_n(draws, cells, most) + below(draws, 4);
+    if (one_in(draws, 25))
+        length = 4 * (CELLS_AT_MOST + 1) - 1 + below(draws, 3);
+    if (one_in(draws, 60) || length > MEMORY_ROOM)
+        length = 4 * CELLS_AT_MOST + below(draws, MEMORY_ROOM - 4 * CELLS_AT_MOST);
+    return length;
+}
+
+uint32_t make_quota(struct draws *draws, size_t cells)
+{
+    switch (below(draws, 8)) {
+    case 0: return 0;
+    case 1: return 1;
+    case 2: return (uint32_t)below(draws, 5);
+    case 3: case 4: return (uint32_t)below(draws, 30);
+    case 5: return 100;
+    case 6: return (uint32_t)below(draws, 200);
+    default: return (uint32_t)below(draws, cells < 100 ? 1000 : 200);
+    }
+}
+
+uint32_t edge_quota(struct draws *draws, uint32_t steps)
+{
+    switch (below(draws, 4)) {
+    case 0: return steps;
+    case 1: return steps == 0 ? 0 : steps - 1;
+    case 2: return steps + 1;
+    default: return UINT32_MAX;
+    }
+}
+
+size_t make_out_length(struct draws *draws, size_t printed)
+{
+    switch (below(draws, 8)) {
+    case 0: case 1: return printed;
+    case 2: return printed == 0 ? 0 : printed - 1;
+    case 3: return printed + 1;
+    case 4: return one_in(draws, 4) ? 0 : printed + below(draws, 10);
+    case 5: return one_in(draws, 2) ? below(draws, printed + 1) : printed;
+    case 6: return one_in(draws, 50) ? PRINTED_AT_MOST : printed + 2;
+    default: return printed + below(draws, 100);
+    }
+}

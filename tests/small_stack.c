@@ -1,0 +1,76 @@
+/* Depth must cost no stack: the three services are called on plans nested as deep as there are cells, on a thread that has
+   64 KiB. What is lent is static, so that the stack holds only what the calls need. The expected answers are counted by hand. */
+#include "small_stack.h"
+#include "turnip.h"
+
+#include <pthread.h>
+#include <stdio.h>
+#include <string.h>
+
+enum { STACK = 64 * 1024, CELLS = 4096, DEEPEST = 2 * CELLS };
+
+static uint8_t text[DEEPEST + 8], out[DEEPEST + 8];
+static uint32_t memory[4 * CELLS];
+
+/* So many blocks, one in another, with something inside the innermost and something behind; its run, and what is left. */
+struct nest {
+    size_t depth;
+    const char *inside, *behind;
+    uint32_t number, steps, cells, length;
+};
+
+static const struct nest nests[] = {
+    {CELLS, "", "", TURNIP_DONE, 0, CELLS, DEEPEST},
+    {CELLS - 1, "d", "", TURNIP_DONE, 0, CELLS, DEEPEST - 1},
+    {CELLS - 2, "[]d", "", TURNIP_DONE, 1, CELLS - 2, DEEPEST - 4},
+    {CELLS - 1, "", "d", TURNIP_DONE, 1, 0, 0},
+    {CELLS / 2, "", "c", TURNIP_DONE, 1, CELLS, DEEPEST},
+    {CELLS / 2, "{x}", "c", TURNIP_FULL, 0, CELLS / 2 + 2, CELLS + 4},
+};
+
+static size_t write_nest(const struct nest *nest)
+{
+    size_t inside = strlen(nest->inside), behind = strlen(nest->behind), depth = nest->depth;
+    memset(text, '[', depth);
+    memcpy(text + depth, nest->inside, inside);
+    memset(text + depth + inside, ']', depth);
+    memcpy(text + depth + inside + depth, nest->behind, behind);
+    return depth + inside + depth + behind;
+}
+
+static bool runs_as_expected(const struct nest *nest)
+{
+    uint32_t answer[5], read[5];
+    size_t length = write_nest(nest);
+    turnip_check(text, length, read);
+    turnip_tidy(text, length, out, sizeof out, answer);
+    bool tidied = answer[TURNIP_NUMBER] == TURNIP_READ && memcmp(answer, read, sizeof read) == 0 &&
+                  answer[TURNIP_LENGTH] == length && memcmp(out, text, length) == 0;
+    turnip_run(text, length, 100, memory, 4 * CELLS, out, sizeof out, answer);
+    const uint32_t expected[5] = {nest->number, nest->steps, nest->cells, nest->length, 0};
+    return tidied && memcmp(answer, expected, sizeof expected) == 0;
+}
+
+static void *run_nests(void *as_expected)
+{
+    *(bool *)as_expected = true;
+    for (size_t i = 0; i < sizeof nests / sizeof *nests; i++)
+        if (!runs_as_expected(&nests[i]))
+            *(bool *)as_expected = false;
+    return NULL;
+}
+
+bool nested_on_small_stack(void)
+{
+    pthread_attr_t attributes;
+    pthread_t thread;
+    bool as_expected = false;
+    if (pthread_attr_init(&attributes) != 0 || pthread_attr_setstacksize(&attributes, STACK) != 0 ||
+        pthread_create(&thread, &attributes, run_nests, &as_expected) != 0) {
+        puts("no thread with a 64 KiB stack");
+        return false;
+    }
+    pthread_join(thread, NULL);
+    printf("nested %d on a 64 KiB stack: %s\n", CELLS, as_expected ? "as expected" : "NOT as expected");
+    return as_expected;
+}
