@@ -8,7 +8,7 @@ use lib.ListN.{length}
 use Rattle.kinds.specs.Limits.{cellLimit}
 use Rattle.plan.specs.Plan.{Plan, cells}
 use Rattle.plan.proofs.Plans.{length-labels}
-use Rattle.memory.specs.Held.{BlockIn, HeldIn}
+use Rattle.memory.specs.Held.{BlockIn, HeldIn, held-numbers}
 use Rattle.memory.specs.Memory.{start, close, link, ports, whole}
 use Rattle.memory.specs.Model.{Lent}
 use Rattle.memory.specs.declared.Held.{Held}
@@ -29,16 +29,13 @@ pub record Counting (m : List ℕ) (n first stop from port count : ℕ) : Type 0
 
 -- the block is one of a plan that the memory holds
 
-abbrev pub held-list : List ℕ → Held → List ℕ
-held-list m h = whole (h .outer .0) m (h .first .0)
-
 all-cells : (text m : List ℕ) (h : Held) (c : ℕ) (t b : Plan ℕ) → HeldIn text m h t → BlockIn c b t
-    → to-count m (h .outer .0) (h .first .0) (close c) (link (held-list m h) (start c)) ≡ cells b
+    → to-count m (h .outer .0) (h .first .0) (close c) (link (held-numbers m h) (start c)) ≡ cells b
 all-cells text m h c t b held inside =
     ap (λ ps. length (starts ps)) (way-ahead (way-inside (block-alone held inside))) ∙ ap length (starts-ports b) ∙ length-labels b
 
 module _ {text m : List ℕ} {h : Held} {c : ℕ} (has : HasBlock text m h c) where
-  alone : Alone (h .outer .0) (held-list m h) c (has .contents)
+  alone : Alone (h .outer .0) (held-numbers m h) c (has .contents)
   alone = block-alone (has .held) (has .inside)
 
   pub block-small : c ≤ cellLimit
@@ -47,7 +44,7 @@ module _ {text m : List ℕ} {h : Held} {c : ℕ} (has : HasBlock text m h c) wh
   pub block-low : (port : ℕ) → port ≡ start c → port ≤ start (h .outer .0)
   block-low port e = omega (arith, alone .below .0)
 
-  pub count-first : (stop at port : ℕ) → stop ≡ close c → at ≡ start c → port ≡ link (held-list m h) at → Counting m (h .outer .0) (h .first .0) stop port port 0
+  pub count-first : (stop at port : ℕ) → stop ≡ close c → at ≡ start c → port ≡ link (held-numbers m h) at → Counting m (h .outer .0) (h .first .0) stop port port 0
   count-first stop at port e a l =
       let on = way-inside alone in
       let low = at-most (2 * h .outer .0) (ports (has .contents)) (on .below) (on .once .1) in
@@ -91,7 +88,7 @@ module _ {m : List ℕ} {n first stop from port count : ℕ} (h : Counting m n f
 
 -- at the stop nothing is ahead, so all is counted, of every plan that the memory holds
 pub count-end : (text m : List ℕ) (h : Held) (c stop at from port count : ℕ) → Counting m (h .outer .0) (h .first .0) stop from port count
-    → port ≡ stop → stop ≡ close c → at ≡ start c → from ≡ link (held-list m h) at
+    → port ≡ stop → stop ≡ close c → at ≡ start c → from ≡ link (held-numbers m h) at
     → (t b : Plan ℕ) → HeldIn text m h t → BlockIn c b t → count ≡ cells b
 unfolding starts
 count-end text m h c stop at from port count k e s a f t b held inside =

@@ -97,7 +97,7 @@ block-low n b c out a q h =
     let before = below-split n (lefts f) (labels q ++ rights f) (subst (Below n) (labels-plug f q) h) .0 in
     below-split n (labels b) (c ∷ []) (below-split n (lefts out) (labels b ++ c ∷ []) before .1) .1 .0
 
-cell-low : (n : ℕ) (f : Frame) (q : Plan ℕ) → Below n (labels (plug f q)) → cell-of n f ≤ n
+pub cell-low : (n : ℕ) (f : Frame) (q : Plan ℕ) → Below n (labels (plug f q)) → cell-of n f ≤ n
 cell-low n top q h = omega arith
 cell-low n (within b c out a) q h = omega (arith, block-low n b c out a q h)
 

@@ -8,13 +8,14 @@ use native.Mathlib.Omega.{arith}
 use lib.ListN.{length, getD, length-append}
 use Rattle.kinds.specs.Limits.{cellLimit}
 use Rattle.plan.specs.Plan.{Plan, end, operator, token, block}
+use Rattle.memory.specs.Held.{held-numbers}
 use Rattle.memory.specs.Memory.{start, close, datum, link, whole, block-kind, ports, Says}
 use Rattle.memory.specs.Model.{Lent}
 use Rattle.memory.specs.declared.Held.{Held}
 use Rattle.memory.proofs.Whole.{number-whole}
 use Rattle.memory.proofs.Ports.{kind-low}
 use Rattle.blocks.proofs.Ways.{ahead, way-ahead, Way}
-use Rattle.hunt.specs.Hunting.{SequenceAt, Scannable, Scanned, held-numbers, ready-at}
+use Rattle.hunt.specs.Hunting.{SequenceAt, Scannable, Scanned, ready-at}
 use Rattle.hunt.specs.declared.Spot.{Spot}
 use Rattle.hunt.specs.declared.Hunted.{Hunted}
 use Rattle.hunt.specs.declared.Hunted.the-variants.{Nothing, Ready}

@@ -9,14 +9,14 @@ use native.Mathlib.Omega.{arith}
 use lib.ListN.{length}
 use Rattle.kinds.specs.Limits.{cellLimit}
 use Rattle.plan.specs.Plan.{Plan}
-use Rattle.memory.specs.Held.{HeldIn}
+use Rattle.memory.specs.Held.{HeldIn, held-numbers}
 use Rattle.memory.specs.Memory.{start, close, datum, link, block-kind, ports, Linked}
 use Rattle.memory.specs.Model.{Lent}
 use Rattle.memory.specs.declared.Held.{Held}
 use Rattle.memory.proofs.Lists.{linked-split}
 use Rattle.blocks.proofs.Ways.{ahead, Way, Turn, turn}
 use Rattle.hunt.specs.Frames.{cell-of}
-use Rattle.hunt.specs.Hunting.{SequenceAt, Scannable, Scanned, Finds, Huntable, held-numbers, opens}
+use Rattle.hunt.specs.Hunting.{SequenceAt, Scannable, Scanned, Finds, Huntable, opens}
 use Rattle.hunt.specs.declared.Spot.{Spot}
 use Rattle.hunt.specs.declared.Hunted.{Hunted}
 use Rattle.hunt.specs.declared.Hunted.the-variants.{Nothing, Ready}

@@ -7,8 +7,8 @@ use mathlib.Core.List.{List, [], _∷_, _++_}
 use lib.Dec.{eqb, ltb}
 use Rattle.plan.specs.Plan.{op-a, op-b, op-c, op-d, Plan, operator, block, _then_, labels}
 use Rattle.plan.specs.Rewriting.{outer, next}
-use Rattle.memory.specs.Held.{HeldIn}
-use Rattle.memory.specs.Memory.{start, close, datum, whole, block-kind, ports, Linked, Says, Below, Distinct, last-of}
+use Rattle.memory.specs.Held.{HeldIn, held-numbers}
+use Rattle.memory.specs.Memory.{start, close, datum, block-kind, ports, Linked, Says, Below, Distinct, last-of}
 use Rattle.memory.specs.Model.{Lent}
 use Rattle.memory.specs.declared.Held.{Held}
 use Rattle.hunt.specs.Frames.{Frame, plug, cell-of, Awaits}
@@ -42,9 +42,6 @@ pub record SequenceAt (text : List ℕ) (n : ℕ) (w : List ℕ) (s : ℕ) (q : 
   pub distinct : Distinct (s ∷ labels q)
   pub below : Below n (labels q)
   pub low : s ≤ n
-
-abbrev pub held-numbers : List ℕ → Held → List ℕ
-held-numbers m h = whole (h .outer .0) m (h .first .0)
 
 pub record Scannable (text m : List ℕ) (h : Held) (s : ℕ) : Type 0 where
   pub lent : Lent (h .outer .0) m

@@ -4,10 +4,10 @@
 ghost use mathlib.Core.Path.{_≡_};
 ghost use Prim.Native.Nat.{ℕ, _≤_};
 ghost use Rattle.plan.specs.Plan.{Plan};
-ghost use Rattle.memory.specs.Held.{HeldIn};
+ghost use Rattle.memory.specs.Held.{HeldIn, held-numbers};
 ghost use Rattle.memory.specs.Memory.{start, whole};
 ghost use Rattle.memory.specs.Model.{Lent};
-ghost use Rattle.hunt.specs.Hunting.{Finds, Huntable, Scannable, Scanned, SequenceAt, held-numbers, opens, ready-at};
+ghost use Rattle.hunt.specs.Hunting.{Finds, Huntable, Scannable, Scanned, SequenceAt, opens, ready-at};
 use kinds::Cell;
 use memory::BLOCK_KIND;
 use memory::Held;

@@ -8,9 +8,13 @@ use Rattle.plan.specs.Plan.{Plan, end, operator, token, block}
 use Rattle.memory.specs.Memory.{Holds, whole}
 use Rattle.memory.specs.declared.Held.{Held}
 
+-- the numbers of the memory m with what is kept beside it
+abbrev pub held-numbers : List ℕ → Held → List ℕ
+held-numbers m h = whole (h .outer .0) m (h .first .0)
+
 -- the memory m, with what is kept beside it, holds the plan t
 abbrev pub HeldIn : (text m : List ℕ) → Held → Plan ℕ → Type 0
-HeldIn text m h t = Holds text (h .outer .0) (whole (h .outer .0) m (h .first .0)) (h .free .0) t
+HeldIn text m h t = Holds text (h .outer .0) (held-numbers m h) (h .free .0) t
 
 -- somewhere in the plan t, at any depth, the block at the cell c has the contents b
 abbrev pub BlockIn : (c : ℕ) → (b t : Plan ℕ) → Type 0

@@ -6,12 +6,11 @@ use mathlib.Core.List.{List}
 use native.Mathlib.Omega.{arith}
 use Rattle.kinds.specs.declared.Cell.{Cell}
 use Rattle.plan.specs.Plan.{Plan}
-use Rattle.memory.specs.Held.{HeldIn}
+use Rattle.memory.specs.Held.{HeldIn, held-numbers}
 use Rattle.memory.specs.Memory.{start, close, Holds}
 use Rattle.memory.specs.Model.{Aside, Lent}
 use Rattle.memory.specs.declared.Held.{Held}
 use Rattle.memory.proofs.Whole.{aside-on, lent-kept}
-use Rattle.hunt.specs.Hunting.{held-numbers}
 use Rattle.rewrites.specs.Splices.{Spliced}
 
 -- the ports of a lent cell

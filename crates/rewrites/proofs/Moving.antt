@@ -14,8 +14,8 @@ use Rattle.memory.proofs.Lists.{absent-split, below-split, distinct-split, link
 use Rattle.memory.proofs.Ports.{Loose, close-loose, last-loose, says-link, start-loose}
 use Rattle.memory.proofs.Sharing.{shared-distinct, shared-used}
 use Rattle.blocks.proofs.Starts.{below-ports}
-use Rattle.hunt.specs.Frames.{Frame, top, within, plug, cell-of}
-use Rattle.hunt.proofs.Frames.{labels-plug, lefts, rights, says-around, says-split}
+use Rattle.hunt.specs.Frames.{Frame, within, plug, cell-of}
+use Rattle.hunt.proofs.Frames.{cell-low, labels-plug, lefts, rights, says-around, says-split}
 use Rattle.rewrites.specs.Rules.{at-end}
 use Rattle.rewrites.specs.Splices.{cut, put-in, released, unwrapped}
 use Rattle.rewrites.proofs.Gaps.{chain-absent, chain-distinct, chain-of, Gap, gap, gap-replaced, gap-says}
@@ -55,12 +55,6 @@ module _ {text : List ℕ} {n : ℕ} {w : List ℕ} {free : ℕ} {t : Plan ℕ} 
 
 -- the port that links to what stands behind X
 
-cell-low : (n : ℕ) (f : Frame) → Below n (lefts f) → cell-of n f ≤ n
-unfolding lefts
-cell-low n top h = omega arith
-cell-low n (within b c out a) h =
-    let low = below-split n (labels b) (c ∷ []) (below-split n (lefts out) (labels b ++ c ∷ []) h .1) .1 .0 in omega arith
-
 last-low : (n x : ℕ) (xs : List ℕ) → x ≤ n → Below n xs → last-of x xs ≤ n
 last-low n x [] h k = h
 last-low n x (y ∷ ys) h k = last-low n y ys (let low = k .0 in omega arith) (k .1)
@@ -77,7 +71,7 @@ module _ (text : List ℕ) (n : ℕ) (w : List ℕ) (free : ℕ) (f : Frame) (X 
       let all = subst (Below n) (labels-plug f (X then q)) (said-below h .0) in
       let low = below-split n (lefts f) (labels (X then q) ++ rights f) all in
       let own = below-split n (labels (X then q)) (rights f) (low .1) .0 in
-      let cell = cell-low n f (low .0) in
+      let cell = cell-low n f (X then q) (said-below h .0) in
       last-low (start n) (start (cell-of n f)) (ports X) (omega arith)
       (below-ports n X (below-split n (labels X) (labels q) (subst (Below n) (labels-then X q) own) .0))
 

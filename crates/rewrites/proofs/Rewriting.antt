@@ -6,13 +6,13 @@ use mathlib.Core.Logic.{_≢_}
 use mathlib.Core.List.{List, _∷_}
 use native.Mathlib.Omega.{arith}
 use Rattle.plan.specs.Plan.{Operator, op-a, op-b, op-c, op-d, Plan, end, operator, block, _then_, bare, cells, labels}
-use Rattle.memory.specs.Held.{HeldIn}
+use Rattle.memory.specs.Held.{HeldIn, held-numbers}
 use Rattle.memory.specs.Memory.{start, close, Below, Holds}
 use Rattle.memory.specs.Model.{Lent}
 use Rattle.memory.specs.declared.Held.{Held}
 use Rattle.memory.proofs.Lists.{below-split}
 use Rattle.hunt.specs.Frames.{Frame, plug}
-use Rattle.hunt.specs.Hunting.{Rule, by-a, by-b, by-c, by-d, held-numbers}
+use Rattle.hunt.specs.Hunting.{Rule, by-a, by-b, by-c, by-d}
 use Rattle.hunt.specs.declared.Spot.{Spot}
 use Rattle.rewrites.specs.Rules.{DropBlock, OneBlock, Rewritable, Rewrites, Rewritten, RuleA, RuleB, RuleC, RuleD, TwoBlocks, at-end}
 use Rattle.rewrites.specs.Splices.{Spliced, cut, released}

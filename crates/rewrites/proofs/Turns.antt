@@ -8,7 +8,7 @@ use Rattle.kinds.specs.Limits.{cellLimit}
 use Rattle.kinds.specs.declared.Cell.{Cell}
 use Rattle.plan.specs.Plan.{Plan, end, block, _then_, cells, labels}
 use Rattle.plan.proofs.Plans.{cells-then, then-end}
-use Rattle.memory.specs.Held.{HeldIn}
+use Rattle.memory.specs.Held.{HeldIn, held-numbers}
 use Rattle.memory.specs.Memory.{start, close, ports, whole, Holds, last-of}
 use Rattle.memory.specs.Model.{Aside, Lent}
 use Rattle.memory.specs.declared.Held.{Held}
@@ -19,7 +19,6 @@ use Rattle.blocks.proofs.Inside.{block-alone}
 use Rattle.copier.specs.Copying.{Copies, Copyable, CopyMade}
 use Rattle.copier.specs.declared.Copied.{Copied}
 use Rattle.hunt.specs.Frames.{Frame, within, plug}
-use Rattle.hunt.specs.Hunting.{held-numbers}
 use Rattle.hunt.proofs.Frames.{cells-plug}
 use Rattle.rewrites.specs.Rules.{DropBlock, OneBlock, RuleA, RuleB, RuleC, RuleD, TwoBlocks, at-end}
 use Rattle.rewrites.specs.Splices.{Spliced, cut, moved, put-in, unwrapped}

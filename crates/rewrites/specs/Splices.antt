@@ -4,10 +4,10 @@ use Prim.Native.Nat.{ℕ, _+_, _*_}
 use mathlib.Core.Path.{_≡_}
 use mathlib.Core.List.{List}
 use lib.ListN.{set}
+use Rattle.memory.specs.Held.{held-numbers}
 use Rattle.memory.specs.Memory.{start, close, link}
 use Rattle.memory.specs.Model.{Aside}
 use Rattle.memory.specs.declared.Held.{Held}
-use Rattle.hunt.specs.Hunting.{held-numbers}
 
 -- the port `after` links to what stands behind `last`
 unfoldable pub cut : List ℕ → (after last : ℕ) → List ℕ

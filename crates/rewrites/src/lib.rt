@@ -4,10 +4,10 @@
 ghost use mathlib.Core.Path.{_≡_};
 ghost use Prim.Native.Nat.{ℕ, _≤_, _<_};
 ghost use Rattle.plan.specs.Plan.{Plan};
+ghost use Rattle.memory.specs.Held.{held-numbers};
 ghost use Rattle.memory.specs.Memory.{start, close};
 ghost use Rattle.memory.specs.Model.{Aside, Lent};
 ghost use Rattle.hunt.specs.Frames.{Frame, plug};
-ghost use Rattle.hunt.specs.Hunting.{held-numbers};
 ghost use Rattle.rewrites.specs.Splices.{Spliced, cut, moved, put-in, released, unwrapped};
 ghost use Rattle.rewrites.specs.Rules.{DropBlock, OneBlock, Rewritable, Rewrites, Rewritten, RuleA, RuleB, RuleC, RuleD, TwoBlocks};
 use blocks::free_block;

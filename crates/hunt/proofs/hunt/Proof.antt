@@ -3,7 +3,7 @@ use Prim.Native.Nat.{suc}
 use mathlib.Core.Logic.{⊎-elim}
 use borrow.Author.Needs.{needs}
 use lib.ListN.{length}
-use Rattle.hunt.specs.Hunting.{held-numbers}
+use Rattle.memory.specs.Held.{held-numbers}
 use Rattle.blocks.proofs.Ways.{ahead}
 use Rattle.hunt.proofs.Walking.{
   Walking,
