@@ -30,7 +30,15 @@ same-length : tie.Need-same-length
 same-length c = search needs
 
 returns : tie.Need-returns
-returns c = record { steps = search (needs, block-put); outer = search needs; aside = search (needs, aside-on) }
+returns c =
+    let p = c .before .before in
+    let s = p .before .before .before .before in
+    let g = s .before .before .before .before .before in
+    record {
+      steps = block-put _ _ _ _ _ _ _ _ (g .before .before .close .ensures) (g .begin-cell .ensures) (s .set-number .ensures .0) (p .append .ensures);
+      outer = search needs;
+      aside = search (needs, aside-on);
+    }
 
 pub open-block-spec : {M : Type 1} → statement M
 open-block-spec =
