@@ -5,7 +5,7 @@ use Rattle.hunt.proofs.ready_at.Statement.{statement}
 use Rattle.hunt.proofs.ready_at.Tie as tie
 
 returns : tie.Need-returns
-returns c = search (needs, behind-two)
+returns c = behind-two _ _ _ _ _ (search needs) (search needs) (search needs)
 
 returns-2 : tie.Need-returns-2
 returns-2 c = search (needs, second-missing)
@@ -14,7 +14,7 @@ returns-3 : tie.Need-returns-3
 returns-3 c = search (needs, both-missing)
 
 returns-4 : tie.Need-returns-4
-returns-4 c = search (needs, behind-one)
+returns-4 c = behind-one _ _ _ _ _ (search needs) (search needs) (search needs)
 
 returns-5 : tie.Need-returns-5
 returns-5 c = search (needs, block-missing)
