@@ -2,6 +2,7 @@ pub mod Answers
 pub mod Blanks
 pub mod Classes
 pub mod Faultless
+pub mod Numbered
 pub mod Options
 pub mod Plans
 pub mod Reached

@@ -1,3 +1,4 @@
+pub mod Numbered
 pub mod Options
 pub mod Plan
 pub mod Reading

@@ -3,9 +3,8 @@
 use Prim.Native.Nat.{ℕ, _+_}
 use mathlib.Core.List.{List, [], _∷_, _++_}
 use mathlib.Core.Logic.{_≢_}
-
-pub data Operator : Type 0 where
-  op-a op-b op-c op-d : Operator
+pub use Rattle.plan.specs.declared.Operator.{Operator}
+pub use Rattle.plan.specs.declared.Operator.the-variants.{A as op-a, B as op-b, C as op-c, D as op-d}
 
 -- A sequence: its end, or an item and the items after it. Every item carries a label, which no rule looks at: reading
 -- puts the place of the item's first byte there. A token is the bytes between its braces.

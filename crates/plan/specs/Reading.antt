@@ -10,7 +10,6 @@ use Rattle.kinds.specs.declared.Place.{Place}
 use Rattle.plan.specs.declared.Refusal.{Refusal}
 use Rattle.plan.specs.declared.Refusal.the-variants.{BadByte, BadToken, Unmatched, Unclosed, Overfull}
 use Rattle.plan.specs.Plan.{
-  Operator,
   op-a,
   op-b,
   op-c,
@@ -29,15 +28,20 @@ use Rattle.plan.specs.Plan.{
   close-brace,
 }
 use Rattle.plan.specs.Token.{token-text}
+pub use Rattle.plan.specs.declared.Class.{Class}
+pub use Rattle.plan.specs.declared.Class.the-variants.{
+  Operator as OPERATOR,
+  Open as OPEN,
+  Close as CLOSE,
+  Brace as BRACE,
+  Blank as BLANK,
+  Bad as BAD,
+}
 
 abbrev pub place : ℕ → Place
 place n = record { 0 = n }
 
 -- the class of a byte outside tokens
-pub data Class : Type 0 where
-  OPERATOR : Operator → Class
-  OPEN CLOSE BRACE BLANK BAD : Class
-
 unfoldable pub class : ℕ → Class
 class b =
     cond (eqb b 97) (OPERATOR op-a)

@@ -1,7 +1,25 @@
 // What the services answer. The definitions in specs/ speak of these types, so that a promise is one equation.
 ghost use mathlib.Core.Path.{_≡_};
+ghost use Rattle.plan.specs.Numbered.{operator-number, operator-of, class-of};
 ghost use Rattle.plan.specs.Services.{ending-number, refusal-number, refusal-place, numbers};
 use kinds::Place;
+
+pub enum Operator {
+    A,
+    B,
+    C,
+    D,
+}
+
+// The class of a byte outside tokens.
+pub enum Class {
+    Operator(Operator),
+    Open,
+    Close,
+    Brace,
+    Blank,
+    Bad,
+}
 
 // A character of UTF-8, or bytes that begin none.
 pub enum Character {
@@ -51,6 +69,47 @@ pub struct Numbers {
     pub cells: u32,
     pub length: u32,
     pub place: u32,
+}
+
+// An operator is stored as its number, and told by it, in these two functions alone.
+impl Operator {
+    pub fn number(self) -> u32
+        ensures { λ r. ⌜ r ≡ operator-number self ⌝ }
+    {
+        match self {
+            Operator::A => 0,
+            Operator::B => 1,
+            Operator::C => 2,
+            Operator::D => 3,
+        }
+    }
+
+    pub fn of(number: u32) -> Operator
+        ensures { λ r. ⌜ r ≡ operator-of number ⌝ }
+    {
+        match number {
+            0 => Operator::A,
+            1 => Operator::B,
+            2 => Operator::C,
+            _ => Operator::D,
+        }
+    }
+}
+
+impl Class {
+    // The class that an entry of the table of class numbers says.
+    pub fn of(number: u8) -> Class
+        ensures { λ r. ⌜ r ≡ class-of number ⌝ }
+    {
+        match number {
+            4 => Class::Open,
+            5 => Class::Close,
+            6 => Class::Brace,
+            7 => Class::Blank,
+            8 => Class::Bad,
+            _ => Class::Operator(Operator::of(number as u32)),
+        }
+    }
 }
 
 impl Ending {
