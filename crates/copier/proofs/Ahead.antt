@@ -8,7 +8,8 @@ use native.Mathlib.Omega.{arith}
 use borrow.Author.Tests.{eq-eqb, ne-eqb}
 use lib.Dec.{eqb}
 use lib.ListN.{length}
-use Rattle.plan.specs.Plan.{Operator, Plan, end, operator, token, block, _then_, bare, cells, labels, relabel}
+use Rattle.plan.specs.Plan.{Plan, end, operator, token, block, _then_, bare, cells, labels, relabel}
+use Rattle.plan.specs.declared.Operator.{Operator}
 use Rattle.plan.specs.Reading.{Around, outermost, inside}
 use Rattle.plan.proofs.Plans.{relabel-then, then-assoc, then-end}
 use Rattle.memory.specs.Memory.{start, close, link, ports, Says, Absent}

@@ -7,7 +7,8 @@ use mathlib.Core.List.{List, [], _∷_, _++_, append-assoc}
 use native.Mathlib.Omega.{arith}
 use native.Mathlib.Decide.{decLt}
 use lib.ListN.{length, getD, set, length-append}
-use Rattle.plan.specs.Plan.{Operator, Plan, end, operator, token, block, _then_, bare, cells, labels, relabel}
+use Rattle.plan.specs.Plan.{Plan, end, operator, token, block, _then_, bare, cells, labels, relabel}
+use Rattle.plan.specs.declared.Operator.{Operator}
 use Rattle.plan.specs.Reading.{Around, outermost, inside}
 use Rattle.plan.proofs.Plans.{then-end}
 use Rattle.plan.proofs.Reached.{seen, seen-then}

@@ -5,7 +5,9 @@ use Prim.Native.Nat.{ℕ}
 use mathlib.Core.Path.{_≡_, refl, ap, sym, _∙_}
 use mathlib.Core.List.{List, [], _∷_, _++_, append-assoc, append-cancel-right}
 use native.Mathlib.Omega.{arith}
-use Rattle.plan.specs.Plan.{Operator, op-a, op-b, op-c, op-d, Plan, end, operator, token, block, close-brace}
+use Rattle.plan.specs.Plan.{Plan, end, operator, token, block, close-brace}
+use Rattle.plan.specs.declared.Operator.{Operator}
+use Rattle.plan.specs.declared.Operator.the-variants.{A as op-a, B as op-b, C as op-c, D as op-d}
 use Rattle.memory.specs.Memory.{start, close, datum, link, operator-kind, ports, Linked, TokenAt, Says, Holds}
 use Rattle.memory.proofs.Lists.{linked-split}
 use Rattle.memory.proofs.Ports.{kind-low}

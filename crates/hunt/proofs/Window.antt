@@ -6,7 +6,9 @@ use mathlib.Core.Path.{_≡_, refl, ap, sym, _∙_, subst}
 use mathlib.Core.List.{List, [], _∷_, _++_}
 use mathlib.Core.Option.{Option, none, some}
 use native.Mathlib.Omega.{arith}
-use Rattle.plan.specs.Plan.{Operator, op-a, op-b, op-c, op-d, Plan, end, operator, token, block, _then_}
+use Rattle.plan.specs.Plan.{Plan, end, operator, token, block, _then_}
+use Rattle.plan.specs.declared.Operator.{Operator}
+use Rattle.plan.specs.declared.Operator.the-variants.{A as op-a, B as op-b, C as op-c, D as op-d}
 use Rattle.plan.specs.Options.{_else_, under}
 use Rattle.plan.specs.Rewriting.{after-two, first-block, outer}
 use Rattle.plan.proofs.Plans.{then-assoc}

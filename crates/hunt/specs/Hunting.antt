@@ -5,7 +5,8 @@ use mathlib.Core.Bool.{Bool, false, cond}
 use mathlib.Core.Option.{none, some}
 use mathlib.Core.List.{List, [], _∷_, _++_}
 use lib.Dec.{eqb, ltb}
-use Rattle.plan.specs.Plan.{op-a, op-b, op-c, op-d, Plan, operator, block, _then_, labels}
+use Rattle.plan.specs.Plan.{Plan, operator, block, _then_, labels}
+use Rattle.plan.specs.declared.Operator.the-variants.{A as op-a, B as op-b, C as op-c, D as op-d}
 use Rattle.plan.specs.Rewriting.{outer, next}
 use Rattle.memory.specs.Held.{HeldIn, held-numbers}
 use Rattle.memory.specs.Memory.{start, close, datum, block-kind, ports, Linked, Says, Below, Distinct, last-of}

@@ -12,8 +12,11 @@ use borrow.Author.Tests.{ne-eqb}
 use Rattle.kinds.specs.Limits.{textLimit, tokenLimit}
 use Rattle.kinds.specs.declared.Cell.{Cell}
 use Rattle.kinds.specs.declared.Token.{Token}
-use Rattle.plan.specs.Plan.{Operator, op-a, op-b, op-c, op-d, Plan, bare, close-brace}
-use Rattle.plan.specs.Reading.{OPERATOR, BLANK, BAD, PLAN, class, read}
+use Rattle.plan.specs.Plan.{Plan, bare, close-brace}
+use Rattle.plan.specs.declared.Operator.{Operator}
+use Rattle.plan.specs.declared.Operator.the-variants.{A as op-a, B as op-b, C as op-c, D as op-d}
+use Rattle.plan.specs.Reading.{PLAN, class, read}
+use Rattle.plan.specs.declared.Class.the-variants.{Operator as OPERATOR, Blank as BLANK, Bad as BAD}
 use Rattle.plan.specs.Refusals.{Begins}
 use Rattle.plan.proofs.Tokens.{Found, allowed-parts}
 use Rattle.text.specs.Classes.{class-number}

@@ -11,9 +11,11 @@ use native.Mathlib.Omega.{arith}
 use lib.ListN.{length, getD, take, drop, length-append, length-drop}
 use lib.Seq.{drop-cons, length-take-le, split-at, take-add, take-all, take-at}
 use Rattle.kinds.specs.Limits.{tokenLimit}
-use Rattle.plan.specs.Plan.{Operator, Plan, end, _then_, bare, labels, print, open-brace, close-brace}
+use Rattle.plan.specs.Plan.{Plan, end, _then_, bare, labels, print, open-brace, close-brace}
+use Rattle.plan.specs.declared.Operator.{Operator}
 use Rattle.plan.specs.Token.{Allowed, token-text}
-use Rattle.plan.specs.Reading.{Around, outermost, inside, OPERATOR, OPEN, CLOSE, BRACE, BLANK, BAD, class, PLAN, read, read-from, without-blanks}
+use Rattle.plan.specs.Reading.{Around, outermost, inside, class, PLAN, read, read-from, without-blanks}
+use Rattle.plan.specs.declared.Class.the-variants.{Operator as OPERATOR, Open as OPEN, Close as CLOSE, Brace as BRACE, Blank as BLANK, Bad as BAD}
 use Rattle.plan.specs.Refusals.{Begins, Faultless, nothing, blank, an-operator, a-token, opens, closes, Fault, bad-byte, bad-token, unmatched, fault, unclosed}
 use Rattle.plan.specs.declared.Refusal.{Refusal}
 use Rattle.plan.proofs.Classes.{class-byte}

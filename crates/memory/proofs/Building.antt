@@ -8,7 +8,8 @@ use native.Mathlib.Omega.{arith}
 use native.Mathlib.Decide.{decLt}
 use lib.ListN.{length, set, length-set}
 use lib.Seq.{getD-set-same, getD-set-other}
-use Rattle.plan.specs.Plan.{Operator, Plan, end, operator, token, block, _then_, labels}
+use Rattle.plan.specs.Plan.{Plan, end, operator, token, block, _then_, labels}
+use Rattle.plan.specs.declared.Operator.{Operator}
 use Rattle.plan.specs.Reading.{Around, outermost, inside}
 use Rattle.plan.proofs.Reached.{seen, seen-then}
 use Rattle.memory.specs.Memory.{

@@ -8,7 +8,9 @@ use mathlib.Core.List.{List, _∷_, _++_, append-assoc}
 use native.Mathlib.Omega.{arith}
 use lib.ListN.{set}
 use lib.Seq.{getD-set-other}
-use Rattle.plan.specs.Plan.{Operator, op-a, op-b, op-c, op-d, Plan, end, operator, token, block, _then_, labels}
+use Rattle.plan.specs.Plan.{Plan, end, operator, token, block, _then_, labels}
+use Rattle.plan.specs.declared.Operator.{Operator}
+use Rattle.plan.specs.declared.Operator.the-variants.{A as op-a, B as op-b, C as op-c, D as op-d}
 use Rattle.plan.specs.Reading.{Around, outermost, inside}
 use Rattle.plan.proofs.Reached.{seen}
 use Rattle.memory.specs.Memory.{

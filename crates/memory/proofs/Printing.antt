@@ -5,25 +5,9 @@ use mathlib.Core.Path.{_≡_, refl}
 use mathlib.Core.List.{List, [], _∷_, _++_, append-assoc}
 use native.Mathlib.Omega.{arith}
 use lib.ListN.{length, length-append}
-use Rattle.plan.specs.Plan.{
-  Operator,
-  op-a,
-  op-b,
-  op-c,
-  op-d,
-  Plan,
-  end,
-  operator,
-  token,
-  block,
-  cells,
-  letter,
-  print,
-  open-bracket,
-  close-bracket,
-  open-brace,
-  close-brace,
-}
+use Rattle.plan.specs.Plan.{Plan, end, operator, token, block, cells, letter, print, open-bracket, close-bracket, open-brace, close-brace}
+use Rattle.plan.specs.declared.Operator.{Operator}
+use Rattle.plan.specs.declared.Operator.the-variants.{A as op-a, B as op-b, C as op-c, D as op-d}
 use Rattle.memory.specs.Memory.{start, close, datum, link, operator-kind, token-kind, block-kind, ports, TokenAt, Says}
 use Rattle.memory.specs.Pieces.{piece-at, piece-bytes}
 

@@ -11,7 +11,9 @@ use borrow.Author.Tests.{eq-eqb, ne-eqb}
 use lib.Dec.{eqb}
 use lib.ListN.{length, drop, length-append, length-drop}
 use lib.Seq.{drop-at, drop-drop}
-use Rattle.plan.specs.Plan.{Operator, op-a, op-b, op-c, op-d, Plan, end, operator, token, block, labels, print}
+use Rattle.plan.specs.Plan.{Plan, end, operator, token, block, labels, print}
+use Rattle.plan.specs.declared.Operator.{Operator}
+use Rattle.plan.specs.declared.Operator.the-variants.{A as op-a, B as op-b, C as op-c, D as op-d}
 use Rattle.plan.proofs.Plans.{length-labels}
 use Rattle.memory.specs.Held.{HeldIn}
 use Rattle.memory.specs.Memory.{

@@ -8,21 +8,9 @@ use mathlib.Core.Path.{_≡_}
 use mathlib.Core.Logic.{_≢_, _⊎_}
 use mathlib.Core.List.{List, [], _∷_, _++_}
 use lib.ListN.{length, getD, take, drop}
-use Rattle.plan.specs.Plan.{
-  Operator,
-  op-a,
-  op-b,
-  op-c,
-  op-d,
-  Plan,
-  end,
-  operator,
-  token,
-  block,
-  labels,
-  open-brace,
-  close-brace,
-}
+use Rattle.plan.specs.Plan.{Plan, end, operator, token, block, labels, open-brace, close-brace}
+use Rattle.plan.specs.declared.Operator.{Operator}
+use Rattle.plan.specs.declared.Operator.the-variants.{A as op-a, B as op-b, C as op-c, D as op-d}
 use Rattle.plan.specs.Reading.{Around, outermost, inside}
 use Rattle.plan.proofs.Reached.{seen}
 

@@ -8,7 +8,8 @@ use borrow.Author.Tests.{eq-eqb, ne-eqb, lt-ltb, le-ltb}
 use Rattle.kinds.specs.declared.Place.{Place}
 use Rattle.plan.specs.Plan.{close-brace}
 use Rattle.plan.specs.Token.{may-hold}
-use Rattle.plan.specs.Reading.{CLOSE, class, place}
+use Rattle.plan.specs.Reading.{class, place}
+use Rattle.plan.specs.declared.Class.the-variants.{Close as CLOSE}
 use Rattle.plan.specs.declared.Character.{Character}
 use Rattle.plan.specs.declared.Character.the-variants.{Whole, Malformed}
 use Rattle.plan.specs.declared.Refusal.the-variants.{BadByte, Unmatched, Unclosed, Overfull}

@@ -14,7 +14,9 @@ use lib.Seq.{take-all, split-at, length-take-le}
 use borrow.Author.Tests.{eqb-true, eqb-false, ltb-true, ltb-false}
 use Rattle.kinds.specs.Limits.{textLimit, tokenLimit}
 use Rattle.plan.specs.Plan.{cells}
-use Rattle.plan.specs.Reading.{Class, OPERATOR, OPEN, CLOSE, BRACE, BLANK, BAD, class, place, read, without-blanks}
+use Rattle.plan.specs.Reading.{class, place, read, without-blanks}
+use Rattle.plan.specs.declared.Class.{Class}
+use Rattle.plan.specs.declared.Class.the-variants.{Operator as OPERATOR, Open as OPEN, Close as CLOSE, Brace as BRACE, Blank as BLANK, Bad as BAD}
 use Rattle.plan.specs.Refusals.{Faultless, nothing, blank, an-operator, opens, closes, Fault, bad-byte, unmatched, Begins, fault, unclosed, overfull}
 use Rattle.plan.specs.declared.Refusal.{Refusal}
 use Rattle.plan.specs.declared.Refusal.the-variants.{Unmatched, Unclosed, Overfull}

@@ -14,7 +14,9 @@ use borrow.Author.Tests.{eqb-true, eqb-false, ltb-true, ltb-false}
 use Rattle.kinds.specs.Limits.{tokenLimit}
 use Rattle.plan.specs.Plan.{close-brace}
 use Rattle.plan.specs.Token.{allowed, character, may-hold, token-text}
-use Rattle.plan.specs.Reading.{Class, OPERATOR, OPEN, CLOSE, BRACE, BLANK, BAD, class, place, read, without-blanks}
+use Rattle.plan.specs.Reading.{class, place, read, without-blanks}
+use Rattle.plan.specs.declared.Class.{Class}
+use Rattle.plan.specs.declared.Class.the-variants.{Operator as OPERATOR, Open as OPEN, Close as CLOSE, Brace as BRACE, Blank as BLANK, Bad as BAD}
 use Rattle.plan.specs.Refusals.{nothing, a-token, bad-token}
 use Rattle.plan.specs.declared.Character.{Character}
 use Rattle.plan.specs.declared.Character.the-variants.{Whole, Malformed}

@@ -6,7 +6,9 @@ use lib.ListN.{length}
 use Rattle.kinds.specs.Limits.{textLimit}
 use Rattle.plan.specs.Plan.{cells, print, close-brace}
 use Rattle.plan.specs.Token.{may-hold}
-use Rattle.plan.specs.Reading.{Class, OPERATOR, OPEN, CLOSE, BRACE, BLANK, BAD, Reading, PLAN, REFUSED, place}
+use Rattle.plan.specs.Reading.{Reading, PLAN, REFUSED, place}
+use Rattle.plan.specs.declared.Class.{Class}
+use Rattle.plan.specs.declared.Class.the-variants.{Operator as OPERATOR, Open as OPEN, Close as CLOSE, Brace as BRACE, Blank as BLANK, Bad as BAD}
 use Rattle.plan.specs.declared.Character.{Character}
 use Rattle.plan.specs.declared.Character.the-variants.{Whole, Malformed}
 use Rattle.plan.specs.declared.Refusal.the-variants.{BadByte, Unmatched, Unclosed, Overfull}

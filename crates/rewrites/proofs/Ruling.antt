@@ -3,7 +3,8 @@ use Prim.Native.Nat.{ℕ, _+_}
 use mathlib.Core.Path.{_≡_, refl, ap, sym, _∙_, subst}
 use mathlib.Core.Logic.{inl}
 use mathlib.Core.List.{List, [], _∷_, _++_}
-use Rattle.plan.specs.Plan.{Operator, Plan, end, operator, block, _then_, bare, labels, relabel}
+use Rattle.plan.specs.Plan.{Plan, end, operator, block, _then_, bare, labels, relabel}
+use Rattle.plan.specs.declared.Operator.{Operator}
 use Rattle.plan.proofs.Plans.{relabel-then, then-assoc, then-end}
 use Rattle.memory.specs.Held.{BlockIn}
 use Rattle.memory.specs.Memory.{start, close, ports, Holds, last-of}

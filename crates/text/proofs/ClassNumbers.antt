@@ -4,8 +4,10 @@ use mathlib.Core.Path.{_≡_, refl, ap, sym}
 use mathlib.Core.Bool.{cond}
 use native.Mathlib.Omega.{arith}
 use lib.Dec.{eqb}
-use Rattle.plan.specs.Plan.{Operator, op-a, op-b, op-c, op-d}
-use Rattle.plan.specs.Reading.{Class, OPERATOR, OPEN, CLOSE, BRACE, BLANK, BAD}
+use Rattle.plan.specs.declared.Operator.{Operator}
+use Rattle.plan.specs.declared.Operator.the-variants.{A as op-a, B as op-b, C as op-c, D as op-d}
+use Rattle.plan.specs.declared.Class.{Class}
+use Rattle.plan.specs.declared.Class.the-variants.{Operator as OPERATOR, Open as OPEN, Close as CLOSE, Brace as BRACE, Blank as BLANK, Bad as BAD}
 use Rattle.text.specs.Classes.{class-number}
 
 abbrev pub by-number : ℕ → Class

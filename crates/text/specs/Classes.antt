@@ -1,7 +1,8 @@
 -- The numbers by which the code says the class of a byte.
 use Prim.Native.Nat.{ℕ}
-use Rattle.plan.specs.Plan.{op-a, op-b, op-c, op-d}
-use Rattle.plan.specs.Reading.{Class, OPERATOR, OPEN, CLOSE, BRACE, BLANK, BAD}
+use Rattle.plan.specs.declared.Operator.the-variants.{A as op-a, B as op-b, C as op-c, D as op-d}
+use Rattle.plan.specs.declared.Class.{Class}
+use Rattle.plan.specs.declared.Class.the-variants.{Operator as OPERATOR, Open as OPEN, Close as CLOSE, Brace as BRACE, Blank as BLANK, Bad as BAD}
 
 abbrev pub class-number : Class → ℕ
 class-number (OPERATOR op-a) = 0
