@@ -6,12 +6,11 @@ use mathlib.Core.Logic.{_≢_}
 use mathlib.Core.List.{List, [], _∷_}
 use native.Mathlib.Omega.{arith}
 use lib.ListN.{length, set}
-use lib.Seq.{getD-set-other}
 use Rattle.kinds.specs.Limits.{cellLimit}
 use Rattle.plan.specs.Plan.{Plan, labels}
 use Rattle.memory.specs.Memory.{start, close, link, whole}
 use Rattle.memory.specs.Model.{Lent, Aside}
-use Rattle.memory.proofs.Whole.{aside-on, aside-same, lent-kept, first-whole}
+use Rattle.memory.proofs.Whole.{aside-on, aside-same, lent-kept}
 use Rattle.blocks.specs.Blocks.{Alone, Leaves, freed, first-free}
 use Rattle.blocks.proofs.Starts.{starts, starts-even, starts-odd, starts-block, way-through}
 use Rattle.blocks.proofs.Ways.{ahead, leads-beside, ahead-end, way-ahead, way-from, Way, Turn, turn}
@@ -36,14 +35,6 @@ module _ {n : ℕ} {m : List ℕ} {first c : ℕ} (h : Leaves n m first c) where
   drop-first stop port free e s =
       rw (e, s) record { lent = h .lent; aside = aside-same; way = way-from (way-through (h .alone)); numbers = refl; frees = refl }
 
--- a store at a link of a lent cell leaves the first port as it is
-first-stays : (n : ℕ) (m m′ : List ℕ) (first r port to : ℕ) → Lent n m → Lent n m′ → port < start n
-    → whole n m′ r ≡ set (whole n m first) (2 * port + 1) to → r ≡ first
-first-stays n m m′ first r port to l l′ low e =
-    first-whole n m′ r l′ (start n) refl ∙ ap (λ v. link v (start n)) e
-    ∙ getD-set-other (whole n m first) (2 * port + 1) (2 * start n + 1) to 0 (omega arith)
-    ∙ sym (first-whole n m first l (start n) refl)
-
 module _ {m₀ : List ℕ} {n first stop from free₀ : ℕ} {m : List ℕ} {port free : ℕ}
     (h : Dropping m₀ n first stop from free₀ m port free) (more : port ≢ stop) where
   abbrev w : List ℕ
@@ -52,8 +43,8 @@ module _ {m₀ : List ℕ} {n first stop from free₀ : ℕ} {m : List ℕ} {por
   here : Turn w n stop port
   here = turn (h .way) more
 
-  pub drop-low : port ≤ start n
-  drop-low = let low = here .low in omega arith
+  pub drop-low : port < start n
+  drop-low = here .low
 
   module _ (next : ℕ) (onward : next ≡ link w port) where
     -- a close is passed over
@@ -72,17 +63,11 @@ module _ {m₀ : List ℕ} {n first stop from free₀ : ℕ} {m : List ℕ} {por
         }
 
     -- a start's cell is freed
-    module _ (m′ : List ℕ) (r : ℕ) (stored : whole n m′ r ≡ set w (2 * port + 1) free) (beside : Aside n m m′) where
-      lent′ : Lent n m′
-      lent′ = lent-kept (h .lent) (beside .as-long)
-
-      now-whole : whole n m′ first ≡ set w (2 * port + 1) free
-      now-whole = ap (whole n m′) (sym (first-stays n m m′ first r port free (h .lent) lent′ (here .low) stored)) ∙ stored
-
+    module _ (m′ : List ℕ) (kept : (k : ℕ) → whole n m′ k ≡ set (whole n m k) (2 * port + 1) free) (beside : Aside n m m′) where
       way′ : Way (whole n m′ first) n stop next (ahead w n stop (link w port))
       way′ =
           let on = here .way in
-          rw (now-whole, onward) record {
+          rw (kept first, onward) record {
             leads = leads-beside w stop (link w port) (ahead w n stop (link w port)) port free (here .past) (on .leads);
             once = on .once;
             below = on .below;
@@ -99,12 +84,12 @@ module _ {m₀ : List ℕ} {n first stop from free₀ : ℕ} {m : List ℕ} {por
           let rest : to-free (whole n m′ first) n stop next ≡ cs = ap starts (way-ahead way′) in
           let this : start (port / 2) ≡ port = omega arith in
           rw e record {
-            lent = lent′;
+            lent = lent-kept (h .lent) (beside .as-long);
             aside = aside-on (h .aside) beside;
             way = way-from way′;
             numbers =
                 ap (freed (whole n m′ first) (port / 2)) rest
-                ∙ ap (λ v. freed v (port / 2) cs) (now-whole ∙ ap (λ p. set w (2 * p + 1) free) (sym this))
+                ∙ ap (λ v. freed v (port / 2) cs) (kept first ∙ ap (λ p. set w (2 * p + 1) free) (sym this))
                 ∙ ap (freed w free) (sym all) ∙ h .numbers;
             frees = ap (first-free (port / 2)) rest ∙ ap (first-free free) (sym all) ∙ h .frees;
           }

@@ -1,22 +1,30 @@
 -- The cells whose starts are in a list of ports: of the ports of a plan these are the plan's labels. And the ways through a
 -- block, from its start and from the port behind it.
-use Prim.Native.Nat.{ℕ, _+_, _/_, _%_, _≤_}
-use mathlib.Core.Path.{_≡_, refl, ap, _∙_}
-use mathlib.Core.Bool.{Bool, true, false}
+use Prim.Native.Nat.{ℕ, _+_, _/_, _%_, _<_, _≤_}
+use mathlib.Core.Path.{_≡_, refl, ap, sym, _∙_}
+use mathlib.Core.Bool.{Bool, true, false, not}
 use mathlib.Core.Logic.{_≢_}
 use mathlib.Core.List.{List, [], _∷_, _++_}
 use native.Mathlib.Omega.{arith}
-use borrow.Author.Tests.{eq-eqb, ne-eqb}
+use borrow.Author.Tests.{eq-eqb, ne-eqb, eqb-true, eqb-false, not-true, not-false}
 use lib.Dec.{eqb}
 use lib.ListN.{length}
 use Rattle.plan.specs.Plan.{Plan, end, operator, token, block, labels}
-use Rattle.memory.specs.Memory.{start, close, link, ports, Below}
-use Rattle.memory.proofs.Lists.{below-join, below-split}
-use Rattle.memory.proofs.Ports.{start-absent, close-absent, ports-distinct}
+use Rattle.memory.specs.Memory.{start, close, link, ports}
+use Rattle.memory.proofs.Ports.{below-ports, start-absent, close-absent, ports-distinct}
 use Rattle.blocks.specs.Blocks.{Alone}
 use Rattle.blocks.proofs.Ways.{Way, leads-linked}
 
--- an even port is a start
+-- an even port is a start: as the code's test says
+module _ (p : ℕ) {closes : Bool} (e : closes ≡ eqb (p % 2) 1) where
+  pub is-start : not closes ≡ true → p % 2 ≡ 0
+  is-start h =
+      let even : p % 2 ≢ 1 = eqb-false (p % 2) 1 (sym e ∙ not-true closes h) in
+      let low : p % 2 < 2 = omega arith in omega arith
+
+  pub is-close : not closes ≡ false → p % 2 ≢ 0
+  is-close h = omega (arith, eqb-true (p % 2) 1 (sym e ∙ not-false closes h))
+
 abbrev with-start : Bool → (port : ℕ) → List ℕ → List ℕ
 with-start true port cs = port / 2 ∷ cs
 with-start false port cs = cs
@@ -70,15 +78,6 @@ pub starts-block : (c : ℕ) (b : Plan ℕ) → starts (start c ∷ ports b) ≡
 starts-block c b = starts-start c (ports b) ∙ ap (c ∷_) (starts-ports b)
 
 -- the ways through a block
-
-pub below-ports : (n : ℕ) (t : Plan ℕ) → Below n (labels t) → Below (start n) (ports t)
-unfolding ports labels
-below-ports n end h = tt
-below-ports n (operator c o p) h = (omega arith, below-ports n p (h .1))
-below-ports n (token c t p) h = (omega arith, below-ports n p (h .1))
-below-ports n (block c b p) h =
-    let r = below-split n (labels b) (labels p) (h .1) in
-    (omega arith, below-join (start n) (ports b) (close c ∷ ports p) (below-ports n b (r .0)) (omega arith, below-ports n p (r .1)))
 
 module _ {n : ℕ} {w : List ℕ} {c : ℕ} {b : Plan ℕ} (h : Alone n w c b) where
   pub way-inside : Way w n (close c) (link w (start c)) (ports b)

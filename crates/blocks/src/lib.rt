@@ -11,8 +11,8 @@ ghost use Rattle.blocks.specs.Blocks.{HasBlock, Alone, Leaves, freed, fi
 use kinds::Cell;
 use memory::Held;
 use memory::Port;
+use memory::keep_cell;
 use memory::link_of;
-use memory::set_link;
 
 // How many cells the contents of a block have. The text itself is not read: it is what the contract tells the plan by.
 pub fn block_cells(text: &[u8], memory: &[u32], held: Held, block: Cell) -> u32
@@ -25,7 +25,7 @@ pub fn block_cells(text: &[u8], memory: &[u32], held: Held, block: Cell) -> u32
     let mut port = link_of(memory, outer, first, Port::start(block));
     let mut count: u32 = 0;
     while port.0 != end.0 {
-        if port.0 % 2 == 0 {
+        if !port.closes() {
             count += 1;
         }
         port = link_of(memory, outer, first, port);
@@ -34,7 +34,7 @@ pub fn block_cells(text: &[u8], memory: &[u32], held: Held, block: Cell) -> u32
 }
 
 // Frees the cells of a block that no plan links to any more, in the order of their starts, and answers the first free cell
-// then. A free cell's start links to the next free one, so the way on is read before the cell is freed.
+// then. A free cell's start keeps the next free one, so the way on is read before the cell is freed.
 pub fn free_block(memory: &mut [u32], outer: Cell, first: Port, free: Cell, block: Cell) -> Cell
     requires { ⌜ Leaves (outer .0) (now memory) (first .0) (block .0) ⌝ }
     ensures frees { λ r. ⌜ ((b : Plan ℕ) → Alone (outer .0) (whole (outer .0) (now (memory .entry)) (first .0)) (block .0) b → (whole (outer .0) (now (memory .exit)) (first .0) ≡ freed (whole (outer .0) (now (memory .entry)) (first .0)) (free .0) (block .0 ∷ labels b)) × (r .0 ≡ first-free (free .0) (block .0 ∷ labels b))) ⌝ }
@@ -45,9 +45,9 @@ pub fn free_block(memory: &mut [u32], outer: Cell, first: Port, free: Cell, bloc
     let mut top = free;
     while at.0 != end.0 {
         let next = link_of(memory, outer, first, at);
-        if at.0 % 2 == 0 {
-            set_link(memory, outer, first, at, Port(top.0));
-            top = Cell(at.0 / 2);
+        if !at.closes() {
+            keep_cell(memory, outer, at, top);
+            top = at.cell();
         }
         at = next;
     }

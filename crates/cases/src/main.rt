@@ -19,8 +19,7 @@ use telling::printed_length;
 use telling::tell_numbers;
 use telling::tell_printed;
 
-// Four numbers are lent for a cell.
-const MEMORY: usize = 4 * Cell::LIMIT;
+const MEMORY: usize = Cell::NUMBERS * Cell::LIMIT;
 
 // More than any of these plans prints.
 const OUTPUT: usize = 1000;
@@ -97,7 +96,7 @@ fn tell(
     ensures { λ r. ⌜ r ≤ length (now (output .exit)) ⌝ }
 {
     tell_given(name, text, cells, quota);
-    tell_lent(text, quota, 4 * cells, memory, output)
+    tell_lent(text, quota, Cell::NUMBERS * cells, memory, output)
 }
 
 // The table to P11: with as many cells as may be and a quota of 100 unless it says otherwise.

@@ -1,80 +1,14 @@
--- What a walk through the contents of a block has ahead: what is left of the sequence that it is in, and behind that the
--- blocks around it, each with what follows it. And the copy so far with what is ahead is, but for its cells, the contents.
-use Prim.Native.Nat.{ℕ, zero, suc, _+_, _*_, _/_, _≤_, _<_}
-use mathlib.Core.Path.{_≡_, refl, ap, sym, _∙_, subst}
+-- The ports that a walk through the contents of a block has ahead, one by one up to the block's close.
+use Prim.Native.Nat.{ℕ, zero, suc, _*_, _/_, _≤_, _<_}
+use mathlib.Core.Path.{_≡_, refl, sym}
 use mathlib.Core.Bool.{cond}
-use mathlib.Core.List.{List, [], _∷_, _++_, append-assoc}
+use mathlib.Core.List.{List, [], _∷_}
 use native.Mathlib.Omega.{arith}
 use borrow.Author.Tests.{eq-eqb, ne-eqb}
 use lib.Dec.{eqb}
 use lib.ListN.{length}
-use Rattle.plan.specs.Plan.{Plan, end, operator, token, block, _then_, bare, cells, labels, relabel}
-use Rattle.plan.specs.declared.Operator.{Operator}
-use Rattle.plan.specs.Reading.{Around, outermost, inside}
-use Rattle.plan.proofs.Plans.{relabel-then, then-assoc, then-end}
-use Rattle.memory.specs.Memory.{start, close, link, ports, Says, Absent}
-
-pub data Behind : Type 0 where
-  last : Behind
-  closing : ℕ → Plan ℕ → Behind → Behind
-
-unfoldable pub ports-behind : Behind → List ℕ
-ports-behind last = []
-ports-behind (closing c q k) = close c ∷ (ports q ++ ports-behind k)
-
-unfoldable pub ahead : Plan ℕ → Behind → List ℕ
-ahead p k = ports p ++ ports-behind k
-
-unfoldable pub cells-behind : Behind → ℕ
-cells-behind last = 0
-cells-behind (closing c q k) = cells q + cells-behind k
-
-abbrev pub SaysBehind : (text w : List ℕ) → Behind → Type 0
-SaysBehind text w last = Unit {0}
-SaysBehind text w (closing c q k) = Says text w q × SaysBehind text w k
-
-pub ahead-block : (c : ℕ) (q p : Plan ℕ) (k : Behind) → ahead (block c q p) k ≡ start c ∷ ahead q (closing c p k)
-unfolding ahead ports ports-behind
-ahead-block c q p k = ap (start c ∷_) (append-assoc (ports q) (close c ∷ ports p) (ports-behind k))
-
--- the sequence x, with the blocks around it closed and with what follows them, is y
-abbrev pub Match : Around → Behind → (x y : Plan (Unit {0})) → Type 0
-Match outermost last x y = x ≡ y
-Match outermost (closing c q k) x y = ⊥
-Match (inside d before out) last x y = ⊥
-Match (inside d before out) (closing c q k) x y = Match out k (bare before then block tt x (bare q)) y
-
-module _ (out : Around) (k : Behind) (here : Plan ℕ) (y : Plan (Unit {0})) where
-  -- an item put behind the sequence here
-  put : (q p : Plan ℕ) → Match out k (bare here then (bare q then bare p)) y → Match out k (bare (here then q) then bare p) y
-  put q p h =
-      subst (λ x. Match out k x y)
-      (sym (ap (_then bare p) (relabel-then (λ l. tt) here q) ∙ then-assoc (bare here) (bare q) (bare p))) h
-
-  pub match-operator : (c f : ℕ) (o : Operator) (p : Plan ℕ) → Match out k (bare here then bare (operator c o p)) y
-      → Match out k (bare (here then operator f o end) then bare p) y
-  unfolding relabel _then_
-  match-operator c f o p h = put (operator f o end) p h
-
-  pub match-token : (c f : ℕ) (t : List ℕ) (p : Plan ℕ) → Match out k (bare here then bare (token c t p)) y
-      → Match out k (bare (here then token f t end) then bare p) y
-  unfolding relabel _then_
-  match-token c f t p h = put (token f t end) p h
-
-  pub match-open : (c f : ℕ) (q p : Plan ℕ) → Match out k (bare here then bare (block c q p)) y
-      → Match (inside f here out) (closing c p k) (bare {L = ℕ} end then bare q) y
-  unfolding relabel _then_
-  match-open c f q p h = h
-
-  pub match-close : (c d : ℕ) (before q : Plan ℕ) → Match (inside d before out) (closing c q k) (bare here then bare {L = ℕ} end) y
-      → Match out k (bare (before then block d here end) then bare q) y
-  unfolding relabel _then_
-  match-close c d before q h =
-      subst (λ x. Match out k x y)
-      (ap (λ x. bare before then block tt x (bare q)) (then-end (bare here))
-      ∙ sym (ap (_then bare q) (relabel-then (λ l. tt) before (block d here end)) ∙ then-assoc (bare before) (bare (block d here end)) (bare q))) h
-
--- the ports ahead, one by one up to the stop
+use Rattle.plan.specs.Plan.{Plan, labels}
+use Rattle.memory.specs.Memory.{link, Absent}
 
 abbrev pub Reaches : (w : List ℕ) → (port : ℕ) → List ℕ → (stop : ℕ) → Type 0
 Reaches w port [] stop = port ≡ stop

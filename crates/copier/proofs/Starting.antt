@@ -1,15 +1,14 @@
 -- Where the walk begins: the first free cell is a block, and the ports ahead are those of the contents, which stand in the
 -- chain of the plan between the block's two ports.
 use Prim.Native.Nat.{ℕ, _+_, _*_, _≤_, _<_}
-use mathlib.Core.Path.{_≡_, refl, sym, subst}
-use mathlib.Core.List.{List, [], _∷_, _++_, append-assoc, append-nil}
+use mathlib.Core.Path.{_≡_, refl, subst}
+use mathlib.Core.List.{List, [], _∷_, _++_, append-assoc}
 use native.Mathlib.Omega.{arith}
 use lib.ListN.{length, set}
 use lib.Seq.{getD-set-same}
-use Rattle.plan.specs.Plan.{Plan, end, _then_, cells, labels, relabel}
-use Rattle.plan.specs.Reading.{outermost}
+use Rattle.plan.specs.Plan.{Plan, cells, labels}
 use Rattle.plan.proofs.Plans.{length-labels}
-use Rattle.plan.proofs.Reached.{seen}
+use Rattle.plan.specs.Pieces.{pieces, seen}
 use Rattle.memory.specs.Held.{BlockIn}
 use Rattle.memory.specs.Memory.{
   start,
@@ -27,10 +26,11 @@ use Rattle.memory.specs.Model.{Model}
 use Rattle.memory.proofs.Building.{begin-in}
 use Rattle.memory.proofs.Lists.{absent-split, distinct-split, linked-beside, linked-split, not-before}
 use Rattle.memory.proofs.Ports.{ports-absent, ports-distinct, says-beside}
-use Rattle.memory.proofs.Printing.{length-ports}
+use Rattle.memory.proofs.Placing.{place-first}
+use Rattle.memory.proofs.Printing.{chain-shows, length-ports}
 use Rattle.memory.proofs.Sharing.{free-absent, room-free, shared-beside, shared-take}
 use Rattle.memory.proofs.Within.{block-ports, block-said}
-use Rattle.copier.proofs.Ahead.{Reaches, Road, ahead, cells-behind, last, ports-behind}
+use Rattle.copier.proofs.Ahead.{Reaches, Road}
 use Rattle.copier.proofs.Going.{Going, Started, beside}
 
 -- the road through the contents
@@ -59,25 +59,17 @@ first-road w n c t b found linked distinct low =
 pub first-going : (text : List ℕ) (n c root : ℕ) (t b : Plan ℕ) (s : Model) → Started text n (s .numbers) root t → BlockIn c b t
     → Shared n (s .numbers) (s .free) (beside t root) → s .tail ≡ start root → s .opened ≡ root → length (beside t root) + cells b ≤ n
     → Going text n (s .numbers) root (close c) t b s (link (s .numbers) (start c))
-unfolding ahead ports-behind cells-behind seen labels relabel _then_
+unfolding seen labels
 first-going text n c root t b s started found shared tail opened room =
-    let nothing = append-nil (ports b) in
     let distinct = distinct-split (labels t) (root ∷ []) (distinct-split (beside t root) (shared .spare) (shared .distinct) .0) .0 in
-    let few = append-nil (beside t root) in
     record {
-      out = outermost;
-      here = end;
-      left = b;
-      behind = last;
-      built = rw (tail, opened) (begin-in (λ h. absent-split root (labels t) (root ∷ []) h .1 .0 refl) shared);
+      ahead = ports b;
+      come = pieces b;
+      placed = place-first b (rw (tail, opened) (begin-in (λ h. absent-split root (labels t) (root ∷ []) h .1 .0 refl) shared));
       kept = λ i a e. refl;
-      alike = refl;
-      road =
-          subst (Road (s .numbers) n (close c) t (link (s .numbers) (start c))) (sym nothing)
-          (first-road (s .numbers) n c t b found (started .linked) distinct (omega arith));
-      says-left = block-said text (s .numbers) c b t found (started .says);
-      says-behind = tt;
-      room = rw few (omega arith);
+      road = first-road (s .numbers) n c t b found (started .linked) distinct (omega arith);
+      shown = chain-shows text (s .numbers) b (block-said text (s .numbers) c b t found (started .says));
+      room = room;
     }
 
 -- the first free cell made a block

@@ -1,24 +1,26 @@
 -- The turns of the loop that copies a block, with the memory and what is kept beside it. The walk is told of every plan that
 -- the memory holds and every contents that the block has in it, and one such pair there is.
 use Prim.Native.Nat.{ℕ, _+_, _*_, _≤_, _<_}
-use mathlib.Core.Path.{_≡_, refl, ap, sym, _∙_, subst}
+use mathlib.Core.Path.{_≡_, ap, sym, _∙_, subst}
 use mathlib.Core.Logic.{_≢_}
 use mathlib.Core.List.{List, [], _∷_}
 use native.Mathlib.Omega.{arith}
-use lib.ListN.{length, set, length-append, length-set}
+use lib.ListN.{set, length-append}
+use Rattle.kinds.specs.Limits.{cellLimit}
 use Rattle.kinds.specs.declared.Cell.{Cell}
 use Rattle.plan.specs.Plan.{Plan, labels}
 use Rattle.plan.proofs.Plans.{length-labels}
-use Rattle.memory.specs.Memory.{start, close, link, whole, block-kind, Shared}
-use Rattle.memory.specs.Model.{Aside, Lent, Ready, Stepped, model}
+use Rattle.memory.specs.Memory.{start, close, link, whole, Shared}
+use Rattle.memory.specs.Model.{Apart, Aside, Finds, Lent, Ready, Stepped, model}
+use Rattle.memory.specs.Pieces.{piece-at}
 use Rattle.memory.specs.declared.Build.{Build}
 use Rattle.memory.specs.declared.Held.{Held}
 use Rattle.memory.specs.declared.Port.{Port}
 use Rattle.memory.proofs.Lists.{below-split}
 use Rattle.memory.proofs.Steps.{building-ready, still-lent}
-use Rattle.memory.proofs.Whole.{aside-on, aside-same, aside-set, lent-kept, set-whole}
+use Rattle.memory.proofs.Whole.{aside-on, aside-same, lent-kept}
 use Rattle.memory.proofs.Within.{block-used}
-use Rattle.copier.specs.Copying.{Copies, CopyHeld, LikeReady, like}
+use Rattle.copier.specs.Copying.{Copies, Copyable, CopyHeld, LikeReady, like}
 use Rattle.copier.proofs.Ahead.{steps}
 use Rattle.copier.proofs.Going.{Going, Started, Turn, beside, going-end, in-below, turn, turn-link}
 use Rattle.copier.proofs.Starting.{first-going, has-free, shared-started, started}
@@ -27,64 +29,60 @@ use Rattle.copier.proofs.Starting.{first-going, has-free, shared-starte
 -- contents of the block c goes from its first port up to its close
 pub record Prepared (m : List ℕ) (h : Held) (c : ℕ) (m₀ : List ℕ) (b₀ : Build) (stop port : ℕ) : Type 0 where
   pub lent : Lent (h .outer .0) m
-  pub outer : b₀ .outer ≡ h .outer
-  pub first : b₀ .first ≡ h .first
-  pub opened : b₀ .opened ≡ h .free
-  pub tail : b₀ .tail .0 ≡ start (h .free .0)
-  pub free : b₀ .free .0 ≡ link (whole (h .outer .0) m (h .first .0)) (start (h .free .0))
-  pub stored : m₀ ≡ set m (2 * start (h .free .0)) block-kind
+  pub apart : Apart m h m₀ b₀
   pub stops : stop ≡ close c
-  pub enters : port ≡ link (whole (h .outer .0) m₀ (h .first .0)) (start c)
+  pub enters : port ≡ link (model m₀ b₀ .numbers) (start c)
 
-abbrev pub begun : Held → (tail next : Port) → Build
-begun h tail next = record { outer = h .outer; first = h .first; tail = tail; opened = h .free; free = record { 0 = next .0 } }
-
-pub prepared : (m : List ℕ) (h : Held) (c : ℕ) (tail next entry end port : Port) → Lent (h .outer .0) m → tail .0 ≡ start (h .free .0)
-    → next .0 ≡ link (whole (h .outer .0) m (h .first .0)) (tail .0) → end .0 ≡ close c → entry .0 ≡ start c
-    → port .0 ≡ link (whole (h .outer .0) (set m (2 * tail .0) 5) (h .first .0)) (entry .0)
-    → Prepared m h c (set m (2 * tail .0) 5) (begun h tail next) (end .0) (port .0)
-prepared m h c tail next entry end port lent at behind stops is enters =
+pub prepared : (m : List ℕ) (h : Held) (c : ℕ) (m₀ : List ℕ) (b₀ : Build) (entry end port : Port) → Lent (h .outer .0) m → Apart m h m₀ b₀
+    → end .0 ≡ close c → entry .0 ≡ start c → port .0 ≡ link (whole (h .outer .0) m₀ (b₀ .first .0)) (entry .0)
+    → Prepared m h c m₀ b₀ (end .0) (port .0)
+prepared m h c m₀ b₀ entry end port lent apart stops is enters =
     record {
       lent = lent;
-      outer = refl;
-      first = refl;
-      opened = refl;
-      tail = at;
-      free = behind ∙ ap (link (whole (h .outer .0) m (h .first .0))) at;
-      stored = ap (λ p. set m (2 * p) 5) at;
+      apart = apart;
       stops = stops;
-      enters = enters ∙ ap (link (whole (h .outer .0) (set m (2 * tail .0) 5) (h .first .0))) is;
+      enters = enters ∙ rw (is, apart .outer);
     }
 
 -- the cells that are asked for are lent
 module _ {text m : List ℕ} {h : Held} {c : ℕ} {t b : Plan ℕ} (k : Copies text m h c t b) where
-  pub copy-low : h .free .0 < h .outer .0
+  copy-low : h .free .0 < h .outer .0
   copy-low = has-free (k .held) (let room = k .room in omega arith)
 
-  pub block-low : c < h .outer .0
+  block-low : c < h .outer .0
   block-low =
       in-below (h .outer .0) c (labels t) (below-split (h .outer .0) (labels t) (k .held .shared .spare) (k .held .shared .below) .0) (block-used c b t (k .found))
 
+module _ {text m : List ℕ} {h : Held} {c : ℕ} (k : Copyable text m h c) where
+  pub has-copy : h .free .0 < h .outer .0
+  has-copy = copy-low (k .copies)
+
+  pub copy-small : h .free .0 ≤ cellLimit
+  copy-small = omega (arith, has-copy, k .lent .few)
+
+  pub block-small : c ≤ cellLimit
+  block-small = omega (arith, block-low (k .copies), k .lent .few)
+
+  pub lent-apart : {m₀ : List ℕ} {b₀ : Build} → Apart m h m₀ b₀ → Lent (h .outer .0) m₀
+  lent-apart a = lent-kept (k .lent) (a .aside .as-long)
+
+  pub block-start : {p : ℕ} → p ≡ start c → p ≤ start (h .outer .0)
+  block-start e = omega (arith, block-low (k .copies))
+
 module _ {text m : List ℕ} {h : Held} {c : ℕ} {m₀ : List ℕ} {b₀ : Build} {stop port : ℕ} {t b : Plan ℕ} (p : Prepared m h c m₀ b₀ stop port)
     (k : Copies text m h c t b) where
-  numbers-are : model m₀ b₀ .numbers ≡ set (whole (h .outer .0) m (h .first .0)) (2 * start (h .free .0)) block-kind
-  numbers-are =
-      let low = copy-low k in
-      rw (p .outer, p .first, p .stored) (set-whole (h .outer .0) m (h .first .0) (p .lent) (2 * start (h .free .0)) block-kind (omega arith))
-
   pub prepared-started : Started text (h .outer .0) (model m₀ b₀ .numbers) (h .free .0) t
-  prepared-started = let room = k .room in rw numbers-are (started (k .held) (omega arith))
+  prepared-started = let room = k .room in rw (p .apart .numbers) (started (k .held) (omega arith))
 
   prepared-shared : Shared (h .outer .0) (model m₀ b₀ .numbers) (b₀ .free .0) (beside t (h .free .0))
-  prepared-shared = let room = k .room in rw (numbers-are, p .free) (shared-started (k .held) (omega arith))
+  prepared-shared = let room = k .room in rw (p .apart .numbers, p .apart .free) (shared-started (k .held) (omega arith))
 
   pub prepared-going : Going text (h .outer .0) (model m₀ b₀ .numbers) (h .free .0) stop t b (model m₀ b₀) port
   prepared-going =
       let room = k .room in
-      let enters : port ≡ link (model m₀ b₀ .numbers) (start c) = rw (p .outer, p .first) (p .enters) in
-      rw (p .stops, enters)
-      (first-going text (h .outer .0) c (h .free .0) t b (model m₀ b₀) prepared-started (k .found) prepared-shared (p .tail)
-      (ap (λ (z : Cell). z .0) (p .opened)) (omega (arith, length-append (labels t) (h .free .0 ∷ []), length-labels t)))
+      rw (p .stops, p .enters)
+      (first-going text (h .outer .0) c (h .free .0) t b (model m₀ b₀) prepared-started (k .found) prepared-shared (p .apart .tail)
+      (ap (λ (z : Cell). z .0) (p .apart .opened)) (omega (arith, length-append (labels t) (h .free .0 ∷ []), length-labels t)))
 
 -- where the loop stands
 pub record Walk (text m₀ : List ℕ) (outer copy : Cell) (b₀ : Build) (stop port₀ : ℕ) (m : List ℕ) (b : Build) (port : ℕ) : Type 0 where
@@ -106,7 +104,7 @@ module _ {text m₀ : List ℕ} {outer copy : Cell} {b₀ : Build} {stop port₀
   cells-same = ap (λ (z : Cell). z .0) (o .same)
 
   pub walk-ready : Ready m b
-  walk-ready = building-ready cells-same (o .lent) (now .built)
+  walk-ready = building-ready cells-same (o .lent) (now .placed .built)
 
   pub tail-low : b .tail .0 ≤ start (outer .0)
   tail-low = let r = walk-ready .tail in let e = cells-same in omega arith
@@ -122,8 +120,7 @@ module _ {text m₀ : List ℕ} {outer copy : Cell} {b₀ : Build} {stop port₀
         record {
           ready = walk-ready;
           below = omega arith;
-          closes = λ odd. (let l = this .closes odd in omega arith);
-          begins = λ even. (let l = this .begins even in omega arith);
+          finds = subst (λ z. Finds (b .free .0) (b .opened .0) z (piece-at (model m b .numbers) port)) (sym e) (this .finds);
         }
 
     pub port-low : port ≤ start (outer .0)
@@ -156,10 +153,10 @@ module _ {text m₀ : List ℕ} {outer copy : Cell} {b₀ : Build} {stop port₀
 
 pub walk-first : {text m : List ℕ} {h : Held} {c : ℕ} {m₀ : List ℕ} {b₀ : Build} {stop port : ℕ} {t b : Plan ℕ} → Prepared m h c m₀ b₀ stop port
     → Copies text m h c t b → Walk text m₀ (h .outer) (h .free) b₀ stop port m₀ b₀ port
-walk-first {m = m} {h = h} {t = t} {b = b} p k =
+walk-first {t = t} {b = b} p k =
     record {
-      lent = lent-kept (p .lent) (ap length (p .stored) ∙ length-set m (2 * start (h .free .0)) block-kind);
-      same = p .outer;
+      lent = lent-kept (p .lent) (p .apart .aside .as-long);
+      same = p .apart .outer;
       aside = aside-same;
       plan = t;
       contents = b;
@@ -178,6 +175,5 @@ module _ {text m : List ℕ} {h : Held} {c : ℕ} {m₀ : List ℕ} {b₀ : Buil
       (subst (λ (z : Cell). CopyHeld text (h .outer .0) (set (whole (z .0) m₁ (b₁ .first .0)) (2 * b₁ .tail .0 + 1) (close (h .free .0))) (b₁ .free .0) (h .free .0) t b)
       (o .same) (going-end (o .each t b (prepared-going p k)) ended (prepared-started p k)))
 
-  pub walk-aside : h .free .0 < h .outer .0 → Aside (h .outer .0) m m₁
-  walk-aside low =
-      aside-on (rw (p .stored) (aside-set (h .outer .0) m (2 * start (h .free .0)) block-kind (omega arith))) (o .aside)
+  pub walk-aside : Aside (h .outer .0) m m₁
+  walk-aside = aside-on (p .apart .aside) (o .aside)

@@ -1,15 +1,13 @@
 -- What it means to copy a block: its contents, told by the plan that they stand in, are built once more inside a cell that was
 -- free and that no port links to yet. And the step of the builder that puts the like of a port.
-use Prim.Native.Nat.{ℕ, _+_, _%_, _≤_, _<_}
+use Prim.Native.Nat.{ℕ, _+_, _≤_, _<_}
 use mathlib.Core.Path.{_≡_}
-use mathlib.Core.Bool.{cond}
-use mathlib.Core.Logic.{_≢_}
 use mathlib.Core.List.{List, [], _∷_, _++_}
-use lib.Dec.{eqb}
 use Rattle.plan.specs.Plan.{Plan, bare, cells, labels}
 use Rattle.memory.specs.Held.{BlockIn, HeldIn}
-use Rattle.memory.specs.Memory.{start, close, datum, link, whole, block-kind, ports, Linked, Says, Shared}
-use Rattle.memory.specs.Model.{Lent, Model, Ready, with-block, with-close, with-item, with-token}
+use Rattle.memory.specs.Memory.{start, close, datum, whole, block-kind, ports, Linked, Says, Shared}
+use Rattle.memory.specs.Model.{Finds, Lent, Model, Ready, model, with-piece}
+use Rattle.memory.specs.Pieces.{piece-at}
 use Rattle.memory.specs.declared.Build.{Build}
 use Rattle.memory.specs.declared.Held.{Held}
 use Rattle.copier.specs.declared.Copied.{Copied}
@@ -41,17 +39,12 @@ abbrev pub CopyMade : (text m : List ℕ) → Copied → (t b : Plan ℕ) → Ty
 CopyMade text m r t b =
     CopyHeld text (r .held .outer .0) (whole (r .held .outer .0) m (r .held .first .0)) (r .held .free .0) (r .copy .0) t b
 
--- the step that puts the like of a port: an odd port is a `]`; an even one is by its datum a block's `[`, a token or an operator
+-- the step that puts the like of a port: the piece that it shows
 unfoldable pub like : Model → (port : ℕ) → Model
-like s port =
-    cond (eqb (port % 2) 1) (with-close s)
-    (cond (eqb (datum (s .numbers) port) 5) (with-block s)
-    (cond (eqb (datum (s .numbers) port) 4) (with-token s (datum (s .numbers) (port + 1)) (link (s .numbers) (port + 1)))
-    (with-item s (datum (s .numbers) port))))
+like s port = with-piece s (piece-at (s .numbers) port)
 
--- a port of a lent cell, whose like can be put: a `]` has a block to close, and any other finds a free cell
+-- a port of a lent cell, whose like can be put
 pub record LikeReady (m : List ℕ) (b : Build) (port : ℕ) : Type 0 where
   pub ready : Ready m b
   pub below : port < start (b .outer .0)
-  pub closes : port % 2 ≡ 1 → b .opened .0 < b .outer .0
-  pub begins : port % 2 ≢ 1 → b .free .0 < b .outer .0
+  pub finds : Finds (b .free .0) (b .opened .0) (b .outer .0) (piece-at (model m b .numbers) port)

@@ -5,19 +5,14 @@ ghost use Prim.Native.Nat.{ℕ};
 ghost use Rattle.plan.specs.Plan.{Plan};
 ghost use Rattle.memory.specs.Model.{Aside, Stepped, model};
 ghost use Rattle.copier.specs.Copying.{Copies, Copyable, CopyMade, LikeReady, like};
-use builder::close_block;
-use builder::open_block;
-use builder::put_operator;
-use builder::put_token;
+use builder::begin_apart;
+use builder::put_piece;
 use kinds::Cell;
-use kinds::Place;
-use kinds::Token;
-use memory::BLOCK_KIND;
 use memory::Build;
 use memory::Held;
 use memory::Port;
-use memory::TOKEN_KIND;
 use memory::link_of;
+use memory::piece_at;
 use memory::set_link;
 
 // The plan as it is held with the copy beside it, and the cell of the copy.
@@ -31,22 +26,8 @@ fn put_like(memory: &mut [u32], b: Build, port: Port) -> Build
     requires { ⌜ LikeReady (now memory) b (port .0) ⌝ }
     ensures { λ r. ⌜ Stepped (now (memory .entry)) b (now (memory .exit)) r (like (model (now (memory .entry)) b) (port .0)) ⌝ }
 {
-    if port.0 % 2 == 1 {
-        return close_block(memory, b);
-    }
-    let number = 2 * port.0 as usize;
-    let kind = memory[number];
-    if kind == BLOCK_KIND {
-        return open_block(memory, b);
-    }
-    if kind == TOKEN_KIND {
-        let token = Token {
-            at: Place(memory[number + 2]),
-            len: memory[number + 3],
-        };
-        return put_token(memory, b, token);
-    }
-    put_operator(memory, b, kind)
+    let piece = piece_at(memory, port);
+    put_piece(memory, b, piece)
 }
 
 // Copies the block at a cell into the first free cells.
@@ -57,21 +38,11 @@ pub fn copy_block(text: &[u8], memory: &mut [u32], held: Held, block: Cell) -> C
     ensures aside { λ r. ⌜ Aside (held .outer .0) (now (memory .entry)) (now (memory .exit)) ⌝ }
 {
     let outer = held.outer;
-    let first = held.first;
     let copy = held.free;
-    let tail = Port::start(copy);
-    let next = link_of(memory, outer, first, tail);
-    let number = 2 * tail.0 as usize;
-    memory[number] = BLOCK_KIND;
-    let mut build = Build {
-        outer,
-        first,
-        tail,
-        opened: copy,
-        free: Cell(next.0),
-    };
+    let mut build = begin_apart(memory, held);
+    let begin = build.first;
     let end = Port::close(block);
-    let mut port = link_of(memory, outer, first, Port::start(block));
+    let mut port = link_of(memory, outer, begin, Port::start(block));
     while port.0 != end.0 {
         build = put_like(memory, build, port);
         let begin = build.first;

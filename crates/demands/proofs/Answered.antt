@@ -9,6 +9,7 @@ use lib.ListN.{length, length-replicate, getD, getD-replicate}
 use Rattle.kinds.specs.Limits.{cellLimit}
 use Rattle.plan.specs.declared.Answer.{Answer}
 use Rattle.plan.specs.declared.Answer.the-variants.{Refused}
+use Rattle.plan.specs.declared.Numbers.{Numbers}
 use Rattle.plan.specs.declared.Refusal.{Refusal}
 use Rattle.plan.specs.declared.Refusal.the-variants.{OutShort}
 use Rattle.plan.specs.Plan.{print}
@@ -32,7 +33,7 @@ use Rattle.demands.proofs.Cases.{
   tidy-case,
 }
 use Rattle.demands.proofs.Meanings.{ends-same, reads-not-refused, reads-one}
-use Rattle.demands.proofs.Numbers.{ending-at-most, is-refusal, refusal-between, same-refusal}
+use Rattle.demands.proofs.Numbers.{ending-at-most, is-refusal, refusal-over, same-refusal}
 
 -- "Any text, quota, memory and output length gets an answer." The contracts ask nothing of the caller, and this is what meets them;
 pub every-check-answered : (text : List ℕ) → (r : Answer) × Checks text r
@@ -53,15 +54,15 @@ pub check-number : {text : List ℕ} {r : Answer} → Checks text r → (numbers
 check-number {text} call = go (check-case call)
   where
     go : {r : Answer} → CheckCase text r → (numbers r .number ≡ READ) ⊎ IsRefusal r
-    go (bad-text {x} h) = inr (refusal-between x)
+    go (bad-text {x} h) = inr (x, refl)
     go (is-read h) = inl refl
 
 pub tidy-number : {text out : List ℕ} {r : Answer} {out′ : List ℕ} → Tidies text out r out′ → (numbers r .number ≡ READ) ⊎ IsRefusal r
 tidy-number {text} {out} call = go (tidy-case call)
   where
     go : {r : Answer} {out′ : List ℕ} → TidyCase text out r out′ → (numbers r .number ≡ READ) ⊎ IsRefusal r
-    go (bad-text {x} h) = inr (refusal-between x)
-    go (out-short {p} h short) = inr (refusal-between (OutShort (length (print p))))
+    go (bad-text {x} h) = inr (x, refl)
+    go (out-short {p} h short) = inr (OutShort (length (print p)), refl)
     go (is-read h fits) = inl refl
 
 pub run-number : {text : List ℕ} {quota : ℕ} {memory out : List ℕ} {r : Answer} {memory′ out′ : List ℕ}
@@ -69,8 +70,8 @@ pub run-number : {text : List ℕ} {quota : ℕ} {memory out : List ℕ} {r : An
 run-number {text} {quota} {memory} {out} call = go (run-case call)
   where
     go : {r : Answer} {out′ : List ℕ} → RunCase (lent memory) quota text out r out′ → (numbers r .number ≤ FULL) ⊎ IsRefusal r
-    go (bad-text {x} h) = inr (refusal-between x)
-    go (out-short {q = q} h short) = inr (refusal-between (OutShort (length (print q))))
+    go (bad-text {x} h) = inr (x, refl)
+    go (out-short {q = q} h short) = inr (OutShort (length (print q)), refl)
     go (ended {e} h fits) = inl (ending-at-most e)
 
 -- "Bad text is refused with a number and a place;" each refusal exactly when its row of the table says, with that row's place.
@@ -144,7 +145,7 @@ tidy-refusal-changes-no-output-byte {text} {out} call h = go (tidy-case call) h
     go : {r : Answer} {out′ : List ℕ} → TidyCase text out r out′ → IsRefusal r → out′ ≡ out
     go (bad-text g) h = refl
     go (out-short g short) h = refl
-    go (is-read g fits) h = absurd (omega arith)
+    go (is-read g fits) (x, h) = absurd (omega (arith, refusal-over x, ap (λ (v : Numbers). v .number) h))
 
 pub run-refusal-changes-no-output-byte : {text : List ℕ} {quota : ℕ} {memory out : List ℕ} {r : Answer} {memory′ out′ : List ℕ}
     → Runs text quota memory out r memory′ out′ → IsRefusal r → out′ ≡ out
@@ -153,7 +154,7 @@ run-refusal-changes-no-output-byte {text} {quota} {memory} {out} call h = go (ru
     go : {r : Answer} {out′ : List ℕ} → RunCase (lent memory) quota text out r out′ → IsRefusal r → out′ ≡ out
     go (bad-text g) h = refl
     go (out-short g short) h = refl
-    go (ended {e} g fits) h = absurd (omega (arith, ending-at-most e))
+    go (ended {e} g fits) (x, h) = absurd (omega (arith, ending-at-most e, refusal-over x, ap (λ (v : Numbers). v .number) h))
 
 -- "and leaves the work memory zeroed, like every other call." As many numbers as before, and each of them 0.
 pub memory-zeroed : {text : List ℕ} {quota : ℕ} {memory out : List ℕ} {r : Answer} {memory′ out′ : List ℕ}

@@ -1,6 +1,6 @@
 -- What a call can have been, by its answer and its output together. Every demand goes by these cases, so no other proof opens a
 -- service's definition.
-use Prim.Native.Nat.{ℕ, _/_, _≤_, _<_}
+use Prim.Native.Nat.{ℕ, _≤_, _<_}
 use mathlib.Core.Path.{_≡_, refl, ap, sym, subst, _∙_}
 use mathlib.Core.Logic.{_≢_}
 use mathlib.Core.List.{List, _++_}
@@ -41,7 +41,7 @@ use Rattle.plan.proofs.Tests.{cond-cases}
 use Rattle.services.specs.Calls.{Checks, Runs, Tidies}
 use Rattle.demands.specs.Words.{Bare, Ends, OUTSHORT, Reads, Rewritten, Unrefused, lent, saved}
 use Rattle.demands.proofs.Meanings.{ends-one, ends-rewritten, ends-same, reads-not-refused, rewritten-one}
-use Rattle.demands.proofs.Numbers.{ending-at-most, refusal-between}
+use Rattle.demands.proofs.Numbers.{ending-at-most, refusal-over}
 
 pub data CheckCase (text : List ℕ) : Answer → Type 0 where
   bad-text : {x : Refusal} → accept standard cellLimit text ≡ REFUSED x → CheckCase text (Refused x)
@@ -130,7 +130,7 @@ tidy-case {text} {out} call = rw (call .answer, call .output) (tidy-cases text o
 pub run-case : {text : List ℕ} {quota : ℕ} {memory out : List ℕ} {r : Answer} {memory′ out′ : List ℕ}
     → Runs text quota memory out r memory′ out′ → RunCase (lent memory) quota text out r out′
 unfolding run
-run-case {text} {quota} {memory} {out} call = rw (call .answer, call .output) (run-cases (length memory / 4) quota text out)
+run-case {text} {quota} {memory} {out} call = rw (call .answer, call .output) (run-cases (lent memory) quota text out)
 
 -- what a run gives when it ends so
 ends-gives : {n quota : ℕ} {text : List ℕ} {e : Ending} {steps : ℕ} {q : Bare} → Ends n quota text e steps q
@@ -159,8 +159,8 @@ module _ {text : List ℕ} {quota : ℕ} {memory out : List ℕ} {r : Answer} {m
   run-ended h = go (run-case call) h
     where
       go : {r : Answer} {out′ : List ℕ} → RunCase (lent memory) quota text out r out′ → Unrefused r → Ended (lent memory) quota text out r out′
-      go (bad-text {x} g) h = absurd (omega (arith, refusal-between x .0))
-      go (out-short {q = q} g short) h = absurd (omega (arith, refusal-between (OutShort (length (print q))) .0))
+      go (bad-text {x} g) h = absurd (omega (arith, refusal-over x))
+      go (out-short {q = q} g short) h = absurd (omega (arith, refusal-over (OutShort (length (print q)))))
       go (ended {e} {steps} {q} g fits) h =
           record { ending = e; steps = steps; result = q; ends = g; told = refl; left = refl; fits = fits }
 

@@ -47,7 +47,7 @@ use Rattle.demands.proofs.Cases.{
   tidy-case,
 }
 use Rattle.demands.proofs.Meanings.{ends-sound, ends-way, reads-one, reads-sound, sound-back}
-use Rattle.demands.proofs.Numbers.{refusal-between, same-ending}
+use Rattle.demands.proofs.Numbers.{refusal-over, same-ending}
 
 module _ {text : List ℕ} {quota : ℕ} {memory out : List ℕ} {r : Answer} {memory′ out′ : List ℕ}
     (call : Runs text quota memory out r memory′ out′) (unrefused : Unrefused r) where
@@ -130,7 +130,7 @@ check-reads {text} call unrefused = go (check-case call) unrefused
   where
     go : {r : Answer} → CheckCase text r → Unrefused r
         → (p : Bare) × Reads cellLimit text p × (numbers r .cells ≡ cells p) × (numbers r .length ≡ length (print p))
-    go (bad-text {x} h) u = absurd (omega (arith, refusal-between x .0))
+    go (bad-text {x} h) u = absurd (omega (arith, refusal-over x))
     go (is-read {p} h) u = (p, h, refl, refl)
 
 pub tidy-reads-prints : {text out : List ℕ} {r : Answer} {out′ : List ℕ} → Tidies text out r out′ → Unrefused r
@@ -141,7 +141,7 @@ tidy-reads-prints {text} {out} call unrefused = go (tidy-case call) unrefused
     go : {r : Answer} {out′ : List ℕ} → TidyCase text out r out′ → Unrefused r
         → (p : Bare) × Reads cellLimit text p × (numbers r .cells ≡ cells p) × (numbers r .length ≡ length (print p))
         × (out′ ≡ print p ++ drop (length (print p)) out) × Reads cellLimit (saved r out′) p
-    go (bad-text {x} h) u = absurd (omega (arith, refusal-between x .0))
-    go (out-short {p} h short) u = absurd (omega (arith, refusal-between (OutShort (length (print p))) .0))
+    go (bad-text {x} h) u = absurd (omega (arith, refusal-over x))
+    go (out-short {p} h short) u = absurd (omega (arith, refusal-over (OutShort (length (print p)))))
     go (is-read {p} h fits) u =
         (p, h, refl, refl, refl, rw (take-append-seam (print p) (drop (length (print p)) out)) (sound-back (reads-sound h)))

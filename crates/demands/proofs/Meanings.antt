@@ -18,7 +18,8 @@ use Rattle.plan.specs.Rewriting.{next}
 use Rattle.plan.specs.Running.{Leads, Ran, RAN, run-plan}
 use Rattle.plan.specs.Services.{accept, standard}
 use Rattle.plan.proofs.Plans.{cells-relabel, print-relabel}
-use Rattle.plan.proofs.ReadBack.{bare-placed, placed, print-bound, read-accepted}
+use Rattle.plan.specs.Pieces.{placed}
+use Rattle.plan.proofs.ReadBack.{bare-placed, print-bound, read-accepted}
 use Rattle.plan.proofs.Refusals.{plan-injective, plan-is-no-refusal, read-faultless}
 use Rattle.plan.proofs.Runs.{Run, ask-go, go, ran-run, run-allowed, run-cells, run-leads, run-relabel, spent, stop}
 use Rattle.plan.proofs.Slots.{accepted-text, accepts, print-accepted, standard-roomy}

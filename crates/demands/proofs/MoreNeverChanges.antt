@@ -4,7 +4,7 @@ use mathlib.Core.Path.{_≡_, refl, ap, sym, subst, _∙_}
 use mathlib.Core.List.{List, [], _∷_}
 use native.Mathlib.Omega.{arith}
 use lib.ListN.{length, length-replicate, replicate}
-use Rattle.kinds.specs.Limits.{cellLimit}
+use Rattle.kinds.specs.Limits.{cellLimit, cellNumbers, tokenLimit}
 use Rattle.plan.specs.declared.Answer.{Answer}
 use Rattle.plan.specs.declared.Answer.the-variants.{Ran}
 use Rattle.plan.specs.declared.Ending.{Ending}
@@ -86,13 +86,13 @@ record SlotRan (n quota : ℕ) (text : List ℕ) (r : Answer) (left : List ℕ) 
   result : Bare
   reads-again : Reads n left result
 
-slot-ran : {m quota : ℕ} {text : List ℕ} {r : Answer} {left : List ℕ} {p : Bare} → Slot m text quota r left → Reads (m / 4) text p
-    → SlotRan (m / 4) quota text r left
+slot-ran : {m quota : ℕ} {text : List ℕ} {r : Answer} {left : List ℕ} {p : Bare} → Slot m text quota r left → Reads (m / cellNumbers) text p
+    → SlotRan (m / cellNumbers) quota text r left
 slot-ran {m} {quota} {text} {r} {left} {p} slot reads =
     subst (λ n. SlotRan n quota text r left) same (ran (subst (λ n. Reads n text p) (sym same) reads))
   where
-    same : lent (slot .memory) ≡ m / 4
-    same = ap (_/ 4) (slot .equal-memory)
+    same : lent (slot .memory) ≡ m / cellNumbers
+    same = ap (_/ cellNumbers) (slot .equal-memory)
 
     ran : Reads (lent (slot .memory)) text p → SlotRan (lent (slot .memory)) quota text r left
     ran reads =
@@ -120,7 +120,7 @@ record SlotsRan (n quota : ℕ) (quotas text : List ℕ) (steps : ℕ) (last : A
   gives : slots standard n quota quotas text ≡ GIVES (Ran ending steps cells size) left
 
 slots-ran : {m quota steps : ℕ} {quotas text : List ℕ} {last : Answer} {left : List ℕ} {p : Bare} → Slots m text quota quotas steps last left
-    → Reads (m / 4) text p → SlotsRan (m / 4) quota quotas text steps last left
+    → Reads (m / cellNumbers) text p → SlotsRan (m / cellNumbers) quota quotas text steps last left
 unfolding slots next-slot after plus-steps
 slots-ran (only {left = left} slot) reads =
     let ran = slot-ran slot reads in
@@ -140,7 +140,7 @@ slots-ran {m} (first {r = r} {q = q} {quotas = quotas} {steps = steps} {left = l
       size = later .size;
       told = later .told;
       gives =
-          ap (λ o. next-slot o (λ t. slots standard (m / 4) q quotas t)) (ran .gives) ∙ ap (after r) (later .gives)
+          ap (λ o. next-slot o (λ t. slots standard (m / cellNumbers) q quotas t)) (ran .gives) ∙ ap (after r) (later .gives)
           ∙ ap (λ a. GIVES (plus-steps a (Ran (later .ending) steps (later .cells) (later .size))) left) (ran .told);
     }
 
@@ -170,9 +170,9 @@ slots-end-as-the-run {text} {quota} {quotas} {memory} {r = r} {out′ = out′} 
 
 one-slot : (memory text : List ℕ) (quota : ℕ) → (r : Answer) × (left : List ℕ) × Slot (length memory) text quota r left
 one-slot memory text quota =
-    let out : List ℕ = replicate (64 * lent memory) 0 in
+    let out : List ℕ = replicate (tokenLimit * lent memory) 0 in
     let answered = every-run-answered text quota memory out in
-    let enough : 64 * lent memory ≤ length out = omega (arith, length-replicate {A = ℕ} (64 * lent memory) 0) in (
+    let enough : tokenLimit * lent memory ≤ length out = omega (arith, length-replicate {A = ℕ} (tokenLimit * lent memory) 0) in (
       answered .0,
       saved (answered .0) (answered .2),
       record {

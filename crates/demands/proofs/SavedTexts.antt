@@ -6,7 +6,7 @@ use mathlib.Core.Logic.{_≢_}
 use mathlib.Core.List.{List}
 use native.Mathlib.Omega.{arith}
 use lib.ListN.{length}
-use Rattle.kinds.specs.Limits.{cellLimit, textLimit}
+use Rattle.kinds.specs.Limits.{cellLimit, textLimit, tokenLimit}
 use Rattle.plan.specs.declared.Answer.{Answer}
 use Rattle.plan.specs.declared.Refusal.{Refusal}
 use Rattle.plan.specs.Plan.{cells, print}
@@ -47,7 +47,7 @@ row-number (bad-row h g (overfull before rest b split f i w)) = (omega arith, λ
 module _ {text : List ℕ} {quota : ℕ} {memory out : List ℕ} {r : Answer} {memory′ out′ : List ℕ}
     (call : Runs text quota memory out r memory′ out′) where
   -- an output of 64 bytes for each cell lent is always long enough
-  pub output-long-enough : 64 * lent memory ≤ length out → numbers r .number ≢ OUTSHORT
+  pub output-long-enough : tokenLimit * lent memory ≤ length out → numbers r .number ≢ OUTSHORT
   output-long-enough room = go (run-case call)
     where
       go : {r : Answer} {out′ : List ℕ} → RunCase (lent memory) quota text out r out′ → numbers r .number ≢ OUTSHORT
@@ -59,7 +59,7 @@ module _ {text : List ℕ} {quota : ℕ} {memory out : List ℕ} {r : Answer} {m
     run : Ended (lent memory) quota text out r out′
     run = run-ended call unrefused
 
-    pub saved-at-most : (length (saved r out′) ≤ 64 * numbers r .cells) × (length (saved r out′) ≤ 262144)
+    pub saved-at-most : (length (saved r out′) ≤ tokenLimit * numbers r .cells) × (length (saved r out′) ≤ tokenLimit * cellLimit)
     saved-at-most =
         let sound = ends-sound (run .ends) in
         let told : numbers r .cells ≡ cells (run .result) = ap (λ (a : Answer). numbers a .cells) (run .told) in

@@ -5,6 +5,7 @@ use mathlib.Core.Path.{_≡_}
 use mathlib.Core.Option.{some}
 use mathlib.Core.List.{List}
 use lib.ListN.{length, take}
+use Rattle.kinds.specs.Limits.{cellNumbers}
 use Rattle.plan.specs.declared.Answer.{Answer}
 use Rattle.plan.specs.declared.Answer.the-variants.{Refused}
 use Rattle.plan.specs.declared.Ending.{Ending}
@@ -38,16 +39,15 @@ OVERFULL = 17
 abbrev pub OUTSHORT : ℕ
 OUTSHORT = 18
 
--- the numbers 0 to 3, and the numbers 11 to 18
+-- the numbers 0 to 3; and the five numbers of a refusal
 abbrev pub Unrefused : Answer → Type 0
 Unrefused r = numbers r .number ≤ READ
 
-abbrev pub IsRefusal : Answer → Type 0
-IsRefusal r = (TOOLONG ≤ numbers r .number) × (numbers r .number ≤ OUTSHORT)
-
--- a refusal's five numbers
 abbrev pub refusal : Refusal → Numbers
 refusal x = numbers (Refused x)
+
+abbrev pub IsRefusal : Answer → Type 0
+IsRefusal r = (x : Refusal) × (numbers r ≡ refusal x)
 
 -- the text that a call saved: the output's first bytes, as many as the answer's length says
 abbrev pub saved : Answer → List ℕ → List ℕ
@@ -55,7 +55,7 @@ saved r out = take (numbers r .length) out
 
 -- the cells that a work memory lends: N
 abbrev pub lent : List ℕ → ℕ
-lent memory = length memory / 4
+lent memory = length memory / cellNumbers
 
 abbrev pub Bare : Type 0
 Bare = Plan (Unit {0})

@@ -2,39 +2,37 @@
 use Prim.Native.Nat.{ℕ, _≤_, _<_}
 use mathlib.Core.Path.{_≡_, refl, ap, sym, _∙_, subst}
 use mathlib.Core.Bool.{Bool, true, false, not}
-use mathlib.Core.Option.{Option, none, some}
+use mathlib.Core.Option.{some}
 use mathlib.Core.List.{List}
 use native.Mathlib.Omega.{arith}
 use borrow.Author.Tests.{lt-leb}
-use Rattle.plan.specs.Options.{_else_, under}
+use Rattle.plan.specs.Frames.{Frame, plug, top}
 use Rattle.plan.specs.Plan.{Plan, cells}
 use Rattle.plan.specs.Rewriting.{next}
 use Rattle.plan.specs.Running.{GO, ask}
 use Rattle.plan.specs.declared.Ending.the-variants.{Done, Quota, Full}
+use Rattle.plan.proofs.Frames.{ahead-top}
 use Rattle.plan.proofs.Runs.{ask-go}
-use Rattle.memory.specs.Held.{HeldIn}
+use Rattle.memory.specs.Held.{HeldIn, Rewritten}
 use Rattle.memory.specs.declared.Held.{Held}
-use Rattle.hunt.specs.Frames.{Awaits, Frame, beyond, plug, top}
 use Rattle.hunt.specs.Hunting.{Finds, Huntable}
 use Rattle.hunt.specs.declared.Hunted.{Hunted}
 use Rattle.hunt.specs.declared.Hunted.the-variants.{Nothing, Ready}
 use Rattle.hunt.specs.declared.Spot.{Spot}
-use Rattle.rewrites.specs.Rules.{Rewritable, Rewrites, Rewritten}
+use Rattle.rewrites.specs.Rules.{Rewritable, Rewrites}
 use Rattle.engine.specs.Running.{Countable, Runnable, Sized, Spotted, Turned}
 use Rattle.engine.specs.declared.Turn.the-variants.{Stopped, Went}
 
--- the hunt begins at the outermost sequence, before which there is nothing
-from-the-front : (n : ℕ) (t : Plan ℕ) → Awaits n t n
-unfolding plug beyond under _else_
-from-the-front n t = record { frame = top; sequence = t; there = refl; cell = refl; first = go (next t) }
-  where
-    go : (x : Option (Plan ℕ)) → x ≡ under (plug top) x else beyond top t
-    go none = refl
-    go (some p) = refl
-
 module _ {text m : List ℕ} {h : Held} {size : ℕ} (k : Runnable text m h size) where
+  -- the hunt begins at the outermost sequence
   pub huntable : Huntable text m h (h .outer .0)
-  huntable = record { lent = k .lent; plan = k .plan; held = k .sized .held; awaits = from-the-front (h .outer .0) (k .plan) }
+  huntable =
+      record {
+        lent = k .lent;
+        plan = k .plan;
+        held = k .sized .held;
+        awaits = record { frame = top; sequence = k .plan; ahead = ahead-top (k .plan); cell = refl };
+      }
 
 -- the test of `!more`
 refused : (more : Bool) → not more ≡ true → more ≡ false
@@ -66,7 +64,7 @@ module _ {text m : List ℕ} {h : Held} {size : ℕ} {r : Hunted} (finds : (t : 
         record { lent = k .lent; frame = there .0; before = there .1; after = there .2; spotted = spotted (k .plan) (k .sized) }
 
     -- the next plan's cells, as `size_after` counts them
-    module _ (after : ℕ) (counts : (f : Frame) (q q′ : Plan ℕ) → Spotted text m h spot size f q q′ → after ≡ cells (plug f q′)) where
+    module _ (after : ℕ) (counts : (f : Frame ℕ) (q q′ : Plan ℕ) → Spotted text m h spot size f q q′ → after ≡ cells (plug f q′)) where
       is-next : (t : Plan ℕ) (s : Sized text m h size t) → (next t ≡ some (plug (found t s .0) (found t s .2))) × (after ≡ cells (plug (found t s .0) (found t s .2)))
       is-next t s = (found t s .5, counts (found t s .0) (found t s .1) (found t s .2) (spotted t s))
 
@@ -94,7 +92,7 @@ module _ {text m : List ℕ} {h : Held} {size : ℕ} {r : Hunted} (finds : (t : 
             record { lent = k .lent; frame = there .0; before = there .1; after = there .2; rewrites = rewrites (k .plan) (k .sized) }
 
         pub turn-went : {m′ : List ℕ} {h′ : Held} (more : Bool) → not more ≡ false
-            → ((f : Frame) (q q′ : Plan ℕ) → Rewrites text m h spot f q q′ → Rewritten text m′ h′ (plug f q′))
+            → ((f : Frame ℕ) (q q′ : Plan ℕ) → Rewrites text m h spot f q q′ → Rewritten text m′ h′ (plug f q′))
             → (t : Plan ℕ) → Sized text m h size t → Turned text m h more m′ (Went h′ after) t
         turn-went more is-more made t s =
             (allowed more is-more, (plug (found t s .0) (found t s .2), goes t s, made (found t s .0) (found t s .1) (found t s .2) (rewrites t s), is-next t s .1))

@@ -4,29 +4,28 @@ use mathlib.Core.Path.{_≡_}
 use mathlib.Core.Bool.{Bool, true, false}
 use mathlib.Core.List.{List}
 use Rattle.plan.specs.declared.Ending.the-variants.{Done, Quota, Full}
+use Rattle.plan.specs.Frames.{Frame, plug}
 use Rattle.plan.specs.Plan.{Plan, bare, cells}
 use Rattle.plan.specs.Rewriting.{next}
 use Rattle.plan.specs.Running.{STOP, GO, ask, RAN, run-plan}
-use Rattle.memory.specs.Held.{HeldIn}
+use Rattle.memory.specs.Held.{HeldIn, Rewritten}
 use Rattle.memory.specs.Model.{Lent}
 use Rattle.memory.specs.declared.Held.{Held}
-use Rattle.hunt.specs.Frames.{Frame, plug, cell-of}
-use Rattle.hunt.specs.Hunting.{Stands}
+use Rattle.hunt.specs.Hunting.{Stands, cell-of}
 use Rattle.hunt.specs.declared.Spot.{Spot}
-use Rattle.rewrites.specs.Rules.{Rewritten}
 use Rattle.engine.specs.declared.Ended.{Ended}
 use Rattle.engine.specs.declared.Turn.{Turn}
 use Rattle.engine.specs.declared.Turn.the-variants.{Stopped, Went}
 
 -- the memory holds the plan with q in the frame, which has so many cells, and the rewrite at the spot gives q′ there
-pub record Spotted (text m : List ℕ) (h : Held) (spot : Spot) (size : ℕ) (f : Frame) (q q′ : Plan ℕ) : Type 0 where
+pub record Spotted (text m : List ℕ) (h : Held) (spot : Spot) (size : ℕ) (f : Frame ℕ) (q q′ : Plan ℕ) : Type 0 where
   pub held : HeldIn text m h (plug f q)
   pub stands : Stands spot (cell-of (h .outer .0) f) q q′
   pub sized : size ≡ cells (plug f q)
 
 pub record Countable (text m : List ℕ) (h : Held) (spot : Spot) (size : ℕ) : Type 0 where
   pub lent : Lent (h .outer .0) m
-  pub frame : Frame
+  pub frame : Frame ℕ
   pub before : Plan ℕ
   pub after : Plan ℕ
   pub spotted : Spotted text m h spot size frame before after

@@ -2,9 +2,9 @@
 // next plan finds no room, or the quota is used up; asked in this order.
 ghost use mathlib.Core.Path.{_≡_};
 ghost use Prim.Native.Nat.{ℕ};
+ghost use Rattle.plan.specs.Frames.{Frame, plug};
 ghost use Rattle.plan.specs.Plan.{Plan, cells};
 ghost use Rattle.memory.specs.Model.{Aside};
-ghost use Rattle.hunt.specs.Frames.{Frame, plug};
 ghost use Rattle.engine.specs.Running.{Countable, RanAs, Runnable, SameCells, Sized, Spotted, Turned};
 use blocks::block_cells;
 use hunt::Hunted;
@@ -12,6 +12,7 @@ use hunt::Spot;
 use hunt::hunt;
 use memory::Held;
 use plan::Ending;
+use plan::Operator;
 use rewrites::rewrite;
 
 // One turn of a run: it stops, or it goes on with the next plan, which has so many cells.
@@ -31,19 +32,15 @@ pub struct Ended {
 // How many cells the plan has after the rewrite at a spot. Only the rules of c and d count the cells of their block.
 fn size_after(text: &[u8], memory: &[u32], held: Held, spot: Spot, size: u32) -> u32
     requires { ⌜ Countable (now text) (now memory) held spot size ⌝ }
-    ensures { λ r. ⌜ ((f : Frame) (q q′ : Plan ℕ) → Spotted (now (text .entry)) (now (memory .entry)) held spot size f q q′ → r ≡ cells (plug f q′)) ⌝ }
+    ensures { λ r. ⌜ ((f : Frame ℕ) (q q′ : Plan ℕ) → Spotted (now (text .entry)) (now (memory .entry)) held spot size f q q′ → r ≡ cells (plug f q′)) ⌝ }
 {
-    if spot.kind == 0 {
-        return size - 2;
+    let which = spot.which;
+    match which {
+        Operator::A => size - 2,
+        Operator::B => size - 1,
+        Operator::C => size + block_cells(text, memory, held, spot.newer),
+        Operator::D => size - block_cells(text, memory, held, spot.newer) - 2,
     }
-    if spot.kind == 1 {
-        return size - 1;
-    }
-    let contents = block_cells(text, memory, held, spot.newer);
-    if spot.kind == 2 {
-        return size + contents;
-    }
-    size - contents - 2
 }
 
 // One turn. FULL is known before anything changes, and before the quota is asked.

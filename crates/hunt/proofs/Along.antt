@@ -10,7 +10,8 @@ use Rattle.plan.specs.Plan.{Plan, labels}
 use Rattle.memory.specs.Memory.{start, close, link, ports, Below, Holds}
 use Rattle.memory.proofs.Lists.{below-split, below-absent, absent-split, distinct-split}
 use Rattle.memory.proofs.Ports.{close-absent, ports-distinct}
-use Rattle.blocks.proofs.Starts.{below-ports, way-through}
+use Rattle.memory.proofs.Ports.{below-ports}
+use Rattle.blocks.proofs.Starts.{way-through}
 use Rattle.blocks.proofs.Ways.{ahead, Leads, leads-linked, Way, way-from}
 use Rattle.hunt.specs.Hunting.{SequenceAt}
 

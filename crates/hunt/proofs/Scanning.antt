@@ -2,27 +2,31 @@
 -- passed by its close, so the walk jumps over the ports of its inside.
 use Prim.Native.Nat.{ℕ, _+_, _*_, _≤_, _<_}
 use mathlib.Core.Path.{_≡_, refl, ap, sym, _∙_, subst, subst₂}
-use mathlib.Core.Logic.{_≢_, _⊎_, inl, inr}
+use mathlib.Core.Logic.{_≢_}
 use mathlib.Core.List.{List, [], _∷_}
 use native.Mathlib.Omega.{arith}
-use lib.ListN.{length, getD, length-append}
+use lib.ListN.{length, length-append}
 use Rattle.kinds.specs.Limits.{cellLimit}
 use Rattle.plan.specs.Plan.{Plan, end, operator, token, block}
+use Rattle.plan.specs.declared.Operator.{Operator}
+use Rattle.plan.proofs.Windows.{Window, no-block, begin, none-ready, front-token, past-token, window-block}
 use Rattle.memory.specs.Held.{held-numbers}
-use Rattle.memory.specs.Memory.{start, close, datum, link, whole, block-kind, ports, Says}
+use Rattle.memory.specs.Memory.{start, close, datum, link, whole, ports, Says}
 use Rattle.memory.specs.Model.{Lent}
+use Rattle.memory.specs.Numbered.{kind-of}
 use Rattle.memory.specs.declared.Held.{Held}
+use Rattle.memory.specs.declared.Kind.{Kind}
+use Rattle.memory.specs.declared.Kind.the-variants.{Operator as OPERATOR, Token as TOKEN, Block as BLOCK}
 use Rattle.memory.proofs.Whole.{number-whole}
-use Rattle.memory.proofs.Ports.{kind-low}
+use Rattle.memory.proofs.Numbered.{kind-told}
 use Rattle.blocks.proofs.Ways.{ahead, way-ahead, Way}
-use Rattle.hunt.specs.Hunting.{SequenceAt, Scannable, Scanned, ready-at}
+use Rattle.hunt.specs.Hunting.{SequenceAt, Scannable, Scanned, closes, ready-at}
 use Rattle.hunt.specs.declared.Spot.{Spot}
 use Rattle.hunt.specs.declared.Hunted.{Hunted}
 use Rattle.hunt.specs.declared.Hunted.the-variants.{Nothing, Ready}
 use Rattle.hunt.proofs.Along.{way-sequence, way-skip}
 use Rattle.hunt.proofs.One.{one-inside}
-use Rattle.hunt.proofs.Tests.{no-operator}
-use Rattle.hunt.proofs.Window.{Window, begin, none-ready, window-token, window-block, window-operator, Tested}
+use Rattle.hunt.proofs.Window.{Seen, Tested, seen-token, seen-block, tested-operator}
 
 -- y are the items from the port `at` on
 pub record Scanning (text m : List ℕ) (n first stop last second third at : ℕ) : Type 0 where
@@ -34,7 +38,8 @@ pub record Scanning (text m : List ℕ) (n first stop last second third at : ℕ
   pub y : Plan ℕ
   pub way : Way (whole n m first) n stop at (ports y)
   pub says : Says text (whole n m first) y
-  pub window : Window cell sequence last second third y
+  pub window : Window sequence y
+  pub seen : Seen cell window last second third
 
 module _ {text m : List ℕ} {h : Held} {s : ℕ} (can : Scannable text m h s) where
   pub scan-small : s ≤ cellLimit
@@ -45,6 +50,7 @@ module _ {text m : List ℕ} {h : Held} {s : ℕ} (can : Scannable text m h s) w
 
   pub scan-first : (stop last at : ℕ) → stop ≡ close s → last ≡ start s → at ≡ link (held-numbers m h) last
       → Scanning text m (h .outer .0) (h .first .0) stop last last last at
+  unfolding begin ports
   scan-first stop last at e l a =
       rw (e, a, l) record {
         lent = can .lent;
@@ -55,20 +61,17 @@ module _ {text m : List ℕ} {h : Held} {s : ℕ} (can : Scannable text m h s) w
         y = can .sequence;
         way = way-sequence (can .there);
         says = can .there .says;
-        window = begin s (can .sequence) (start s) (start s);
+        window = no-block (begin (can .sequence));
+        seen = (refl, omega arith);
       }
 
--- the port behind which the next item begins, by the kind of this one
-abbrev pub Passed : (kind at last : ℕ) → Type 0
-Passed kind at last = ((kind ≡ block-kind) × (last ≡ at + 1)) ⊎ ((kind ≢ block-kind) × (last ≡ at))
-
 -- what the test of an item gives: the walk goes on behind it; or the sequence's leftmost ready operator is there
-abbrev pub Outcome : (text m : List ℕ) → (n first stop last second kind at : ℕ) → Hunted → Type 0
-Outcome text m n first stop last second kind at Nothing =
-    (last′ at′ : ℕ) → Passed kind at last′ → at′ ≡ link (whole n m first) last′
-    → Scanning text m n first stop last′ last second at′
+abbrev pub Outcome : (text m : List ℕ) → (n first stop last second at : ℕ) → Kind → Hunted → Type 0
+Outcome text m n first stop last second at kind Nothing =
+    (count at′ : ℕ) → count ≡ closes kind → at′ ≡ link (whole n m first) (at + count)
+    → Scanning text m n first stop (at + count) last second at′
     × (length (ahead (whole n m first) n stop at′) < length (ahead (whole n m first) n stop at))
-Outcome text m n first stop last second kind at (Ready spot) =
+Outcome text m n first stop last second at kind (Ready spot) =
     (s : ℕ) × (q : Plan ℕ) × (stop ≡ close s) × SequenceAt text n (whole n m first) s q × Scanned (Ready spot) s q
 
 -- what is found in the one sequence inside the cell is found in every one
@@ -93,11 +96,22 @@ module _ {text m : List ℕ} {n first stop last second third at : ℕ} (h : Scan
   pub scan-low : at < start n
   scan-low = low-item (h .y) (h .way)
 
+  pub scan-here : 2 * at < length m
+  scan-here = omega (arith, scan-low, h .lent .room)
+
+  next-low : (kind : Kind) → at + closes kind ≤ start n
+  next-low (OPERATOR o) = omega (arith, scan-low)
+  next-low TOKEN = omega (arith, scan-low)
+  next-low BLOCK = omega (arith, scan-low)
+
+  pub scan-next : (kind : Kind) (count : ℕ) → count ≡ closes kind → at + count ≤ start n
+  scan-next kind count e = rw e (next-low kind)
+
   -- behind an item that ends at the port, with the items p left
   onward : (y p : Plan ℕ) (port : ℕ) → Way w n stop at (ports y) → Way w n stop (link w port) (ports p) → length (ports p) < length (ports y)
-      → Says text w p → Window (h .cell) (h .sequence) port last second p → (last′ at′ : ℕ) → last′ ≡ port → at′ ≡ link w last′
+      → Says text w p → (v : Window (h .sequence) p) → Seen (h .cell) v port last second → (last′ at′ : ℕ) → last′ ≡ port → at′ ≡ link w last′
       → Scanning text m n first stop last′ last second at′ × (length (ahead w n stop at′) < length (ahead w n stop at))
-  onward y p port way way′ less says window last′ at′ e a =
+  onward y p port way way′ less says window seen last′ at′ e a =
       rw (a, e) (
         record {
           lent = h .lent;
@@ -109,69 +123,62 @@ module _ {text m : List ℕ} {n first stop last second third at : ℕ} (h : Scan
           way = way′;
           says = says;
           window = window;
+          seen = seen;
         },
         rw (way-ahead way, way-ahead way′) less,
       )
 
-  module _ (kind : ℕ) (reads : kind ≡ getD m (2 * at) 0) where
-    says-kind : kind ≡ datum w at
-    says-kind = reads ∙ number-whole n m first (h .lent) (2 * at) (omega (arith, scan-low))
+  -- behind an operator or a token
+  pass-atom : (c : ℕ) (y p : Plan ℕ) → ports y ≡ start c ∷ ports p → Way w n stop at (ports y) → Says text w p → (v : Window (h .sequence) p)
+      → Seen (h .cell) v (start c) last second → (count at′ : ℕ) → count ≡ 0 → at′ ≡ link w (at + count)
+      → Scanning text m n first stop (at + count) last second at′ × (length (ahead w n stop at′) < length (ahead w n stop at))
+  pass-atom c y p e way says window seen count at′ l a =
+      let from : Way w n stop at (start c ∷ ports p) = subst (Way w n stop at) e way in
+      onward y p (start c) way (way-skip [] (start c) (ports p) from) (omega (arith, ap length e)) says window seen (at + count) at′ (omega (arith, from .leads .0)) a
 
-    abbrev Then : Hunted → Type 0
-    Then r = Outcome text m n first stop last second kind at r
+  abbrev Then : Kind → Hunted → Type 0
+  Then kind r = Outcome text m n first stop last second at kind r
 
-    pass-atom : (c : ℕ) (y p : Plan ℕ) → ports y ≡ start c ∷ ports p → kind ≢ block-kind → Way w n stop at (ports y) → Says text w p
-        → Window (h .cell) (h .sequence) (start c) last second p → Then Nothing
-    pass-atom c y p e k way says window last′ at′ (inl passed) a = absurd (k (passed .0))
-    pass-atom c y p e k way says window last′ at′ (inr passed) a =
-        let from : Way w n stop at (start c ∷ ports p) = subst (Way w n stop at) e way in
-        onward y p (start c) way (way-skip [] (start c) (ports p) from) (omega (arith, ap length e)) says window last′ at′
-        (passed .1 ∙ from .leads .0) a
+  tested : (c : ℕ) (o : Operator) (p : Plan ℕ) (r : Hunted) → Way w n stop at (ports (operator c o p)) → Says text w p
+      → Tested r (h .cell) (h .sequence) (start c) last second p → Then (OPERATOR o) r
+  unfolding ports
+  tested c o p Nothing way says (window, seen) = pass-atom c (operator c o p) p refl way says window seen
+  tested c o p (Ready spot) way says found = (h .cell, h .sequence, h .ends, h .there, found)
 
-    -- behind the test of an operator
-    tested : (c : ℕ) (y p : Plan ℕ) (r : Hunted) → ports y ≡ start c ∷ ports p → kind ≢ block-kind → Way w n stop at (ports y) → Says text w p
-        → Tested r (h .cell) (h .sequence) (start c) last second p → Then r
-    tested c y p Nothing e k way says window = pass-atom c y p e k way says window
-    tested c y p (Ready spot) e k way says found = (h .cell, h .sequence, h .ends, h .there, found)
+  module _ (kind : Kind) (reads : kind ≡ kind-of (datum m at)) where
+    told : (c number : ℕ) → at ≡ start c → datum w (start c) ≡ number → kind ≡ kind-of number
+    told c number here says =
+        reads ∙ ap kind-of (number-whole n m first (h .lent) (2 * at) (omega (arith, scan-low)) ∙ ap (datum w) here ∙ says)
 
-    pass-block : (c : ℕ) (b p : Plan ℕ) → Way w n stop at (ports (block c b p)) → Says text w p
-        → Window (h .cell) (h .sequence) last second third (block c b p) → kind ≡ block-kind → Then Nothing
+    item : (y : Plan ℕ) → Way w n stop at (ports y) → Says text w y → (v : Window (h .sequence) y) → Seen (h .cell) v last second third
+        → Then kind (ready-at kind at last second third)
     unfolding ports
-    pass-block c b p way says window told last′ at′ (inl passed) a =
+    item end way says window seen = absurd (more (way .leads))
+    item (operator c o p) way says window seen =
         let here = way .leads .0 in
-        onward (block c b p) p (close c) way (way-skip (start c ∷ ports b) (close c) (ports p) way)
-        (omega (arith, length-append (ports b) (close c ∷ ports p))) says (window-block window) last′ at′ (omega arith) a
-    pass-block c b p way says window told last′ at′ (inr passed) a = absurd (passed .0 told)
+        rw (told c _ here (says .0) ∙ kind-told (OPERATOR o))
+        (tested c o p (ready-at (OPERATOR o) at last second third) way (says .1)
+        (rw here (tested-operator (h .cell) (h .sequence) last second third c p o window seen)))
+    item (token c t p) way says window seen =
+        rw (told c _ (way .leads .0) (says .0))
+        (pass-atom c (token c t p) p refl way (says .2) (no-block (past-token (front-token window))) (seen-token (h .cell) (front-token window) last second))
+    item (block c b p) way says window seen =
+        let here = way .leads .0 in
+        rw (told c _ here (says .0))
+        (λ count at′ e a. onward (block c b p) p (close c) way (way-skip (start c ∷ ports b) (close c) (ports p) way)
+        (omega (arith, length-append (ports b) (close c ∷ ports p))) (says .2) (window-block window) (seen-block (h .cell) last second third window seen)
+        (at + count) at′ (omega arith) a)
 
-    item : (y : Plan ℕ) → Way w n stop at (ports y) → Says text w y → Window (h .cell) (h .sequence) last second third y
-        → Then (ready-at kind at last second third)
-    unfolding ports
-    item end way says window = absurd (more (way .leads))
-    item (operator c o p) way says window =
-        let here = way .leads .0 in
-        let told = says-kind ∙ ap (datum w) here ∙ says .0 in
-        tested c (operator c o p) p (ready-at kind at last second third) refl (λ e. omega (arith, kind-low o)) way (says .1)
-        (rw (told, here) (window-operator (h .cell) (h .sequence) last second third c p o window))
-    item (token c t p) way says window =
-        let here = way .leads .0 in
-        let told = says-kind ∙ ap (datum w) here ∙ says .0 in
-        subst Then (no-operator kind at last second third (omega arith))
-        (pass-atom c (token c t p) p refl (λ e. omega arith) way (says .2) (window-token window))
-    item (block c b p) way says window =
-        let here = way .leads .0 in
-        let told = says-kind ∙ ap (datum w) here ∙ says .0 in
-        subst Then (no-operator kind at last second third (omega arith)) (pass-block c b p way (says .2) window told)
-
-    scan-item : Then (ready-at kind at last second third)
-    scan-item = item (h .y) (h .way) (h .says) (h .window)
+    scan-item : Then kind (ready-at kind at last second third)
+    scan-item = item (h .y) (h .way) (h .says) (h .window) (h .seen)
 
     module _ (r : Hunted) (answers : r ≡ ready-at kind at last second third) where
-      pub scan-past : r ≡ Nothing → Then Nothing
-      scan-past e = subst Then (sym answers ∙ e) scan-item
+      pub scan-past : r ≡ Nothing → Then kind Nothing
+      scan-past e = subst (Then kind) (sym answers ∙ e) scan-item
 
       pub scan-found : (spot : Spot) → r ≡ Ready spot → (s : ℕ) → stop ≡ close s → (q : Plan ℕ) → SequenceAt text n w s q → Scanned (Ready spot) s q
       scan-found spot e s c q there =
-          let o = subst Then (sym answers ∙ e) scan-item in
+          let o = subst (Then kind) (sym answers ∙ e) scan-item in
           of-each (Ready spot) (o .0) (o .1) stop s (o .2) (o .3) (o .4) c q there
 
 -- at the stop no item is left, so none was ready
@@ -184,6 +191,6 @@ none-left (block c b p) way e = absurd (way .once .0 .0 (sym e ∙ way .leads .0
 
 pub scan-none : {text m : List ℕ} {n first stop last second third at : ℕ} → Scanning text m n first stop last second third at → at ≡ stop
     → (s : ℕ) → stop ≡ close s → (q : Plan ℕ) → SequenceAt text n (whole n m first) s q → Scanned Nothing s q
-scan-none {stop} {last} {second} {third} h e s c q there =
-    let left = subst (Window (h .cell) (h .sequence) last second third) (none-left (h .y) (h .way) e) (h .window) in
+scan-none {stop} h e s c q there =
+    let left = subst (Window (h .sequence)) (none-left (h .y) (h .way) e) (h .window) in
     of-each Nothing (h .cell) (h .sequence) stop s (h .ends) (h .there) (none-ready left) c q there

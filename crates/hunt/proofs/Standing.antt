@@ -1,29 +1,30 @@
 -- Where the hunt stands in a plan, on plain values: at a sequence's opening with nothing ready before it, or behind the opening
--- with the sequence's own operators not ready and those inside its blocks so far neither. Each equation for the next rewrite is
--- the order's own definition, taken apart at that port.
-use Prim.Native.Nat.{ℕ, _+_, _%_}
-use mathlib.Core.Path.{_≡_, refl, ap, sym, _∙_, subst}
+-- with the sequence's own operators not ready and those inside its blocks so far neither. What the next rewrite is from there on
+-- are the order's laws; here they are tied to the ports.
+use Prim.Native.Nat.{ℕ, _%_}
+use mathlib.Core.Path.{_≡_, refl, ap, _∙_, subst}
 use mathlib.Core.Logic.{_≢_}
 use mathlib.Core.Bool.{true, false}
 use mathlib.Core.List.{List, [], _∷_, _++_, append-assoc}
-use mathlib.Core.Option.{Option, none, some}
+use mathlib.Core.Option.{none}
 use native.Mathlib.Omega.{arith}
 use borrow.Author.Tests.{eq-eqb, ne-eqb}
+use lib.Dec.{eqb}
+use Rattle.plan.specs.Frames.{Frame, top, within, plug, Ahead, Inside}
+use Rattle.plan.specs.Options.{under}
 use Rattle.plan.specs.Plan.{Plan, end, operator, token, block, _then_, labels}
-use Rattle.plan.specs.Options.{_else_, under}
 use Rattle.plan.specs.Rewriting.{outer, inner, next}
-use Rattle.plan.proofs.Options.{under-under}
-use Rattle.plan.proofs.Plans.{then-assoc, then-end}
-use Rattle.plan.proofs.Rewrites.{outer-first, inner-after}
+use Rattle.plan.proofs.Frames.{none-ahead, inside-past, inside-enter, inside-leave, inside-end}
 use Rattle.memory.specs.Memory.{start, close, datum, link, block-kind, ports, Linked, Says, Below, Holds}
 use Rattle.memory.proofs.Lists.{below-split}
-use Rattle.memory.proofs.Ports.{kind-low}
-use Rattle.hunt.specs.Frames.{Frame, top, within, plug, cell-of, beyond}
-use Rattle.hunt.specs.Hunting.{opens}
+use Rattle.memory.specs.Numbered.{kind-of}
+use Rattle.memory.specs.declared.Kind.the-variants.{Operator as OPERATOR}
+use Rattle.memory.proofs.Numbered.{kind-told}
+use Rattle.hunt.specs.Hunting.{cell-of, closes, opens}
 use Rattle.hunt.proofs.Frames.{right, says-split, says-around, block-low}
 
 -- the ports from those of the items z on, where the items z end a sequence in the frame
-abbrev pub onward : (n : ℕ) → Frame → Plan ℕ → List ℕ
+abbrev pub onward : (n : ℕ) → Frame ℕ → Plan ℕ → List ℕ
 onward n f z = ports z ++ close (cell-of n f) ∷ right n f
 
 -- the port is the first of the list
@@ -33,22 +34,20 @@ First port (x ∷ xs) = port ≡ x
 
 -- at the opening of the sequence q
 pub record Opening (w : List ℕ) (n : ℕ) (t : Plan ℕ) (port : ℕ) : Type 0 where
-  pub frame : Frame
+  pub frame : Frame ℕ
   pub q : Plan ℕ
-  pub there : t ≡ plug frame q
+  pub ahead : Ahead t frame q
   pub at : port ≡ start (cell-of n frame)
   pub chain : Linked w (start (cell-of n frame) ∷ onward n frame q)
-  pub left : next t ≡ under (plug frame) (next q) else beyond frame q
 
 -- the items z are to be looked into, behind the items d of their sequence
 pub record Passing (w : List ℕ) (n : ℕ) (t : Plan ℕ) (port : ℕ) : Type 0 where
-  pub frame : Frame
+  pub frame : Frame ℕ
   pub d : Plan ℕ
   pub z : Plan ℕ
-  pub there : t ≡ plug frame (d then z)
+  pub inside : Inside t frame d z
   pub at : First port (onward n frame z)
   pub chain : Linked w (onward n frame z)
-  pub left : next t ≡ under (λ v. plug frame (d then v)) (inner z) else beyond frame (d then z)
 
 -- links
 
@@ -60,32 +59,18 @@ linked-tail : (w : List ℕ) (x : ℕ) (xs : List ℕ) → Linked w (x ∷ xs) �
 linked-tail w x [] h = tt
 linked-tail w x (y ∷ xs) h = h .1
 
--- the order
-
-under-rest : {A B : Type 0} (g : A → B) (x y : Option A) (z : Option B) → under g (x else y) else z ≡ under g x else (under g y else z)
-unfolding under _else_
-under-rest g none y z = refl
-under-rest g (some a) y z = refl
-
 -- behind an opening where no operator of the sequence itself is ready
 pub pass-opening : {w : List ℕ} {n : ℕ} {t : Plan ℕ} {port : ℕ} (h : Opening w n t port) → outer (h .q) ≡ none → Passing w n t (link w port)
-unfolding _then_
 pass-opening {w} {n} {t} {port} h e =
     let f = h .frame in
     record {
       frame = f;
       d = end;
       z = h .q;
-      there = h .there;
+      inside = none-ahead (h .ahead) e;
       at = rw (h .at) (first-linked w (start (cell-of n f)) (ports (h .q)) (close (cell-of n f)) (right n f) (h .chain));
       chain = linked-tail w (start (cell-of n f)) (onward n f (h .q)) (h .chain);
-      left = h .left ∙ ap (λ x. under (plug f) x else beyond f (h .q)) (inner-after (h .q) e);
     }
-
-pub found-opening : {w : List ℕ} {n : ℕ} {t : Plan ℕ} {port : ℕ} (h : Opening w n t port) {q′ : Plan ℕ} → outer (h .q) ≡ some q′
-    → next t ≡ some (plug (h .frame) q′)
-unfolding under _else_
-found-opening h e = h .left ∙ ap (λ x. under (plug (h .frame)) x else beyond (h .frame) (h .q)) (outer-first (h .q) e)
 
 -- what a port is to the hunt: the opening of a sequence; or a port that is passed over; or the end of the plan
 pub data Standing (w : List ℕ) (n : ℕ) (t : Plan ℕ) (port : ℕ) : Type 0 where
@@ -93,13 +78,9 @@ pub data Standing (w : List ℕ) (n : ℕ) (t : Plan ℕ) (port : ℕ) : Type 0 
   passed : Passing w n t (link w port) → opens w port ≡ false → port ≢ close n → Standing w n t port
   at-end : next t ≡ none → port ≡ close n → Standing w n t port
 
-start-opens : (w : List ℕ) (c : ℕ) → datum w (start c) ≡ block-kind → opens w (start c) ≡ true
+start-opens : (w : List ℕ) (c number : ℕ) → datum w (start c) ≡ number → opens w (start c) ≡ eqb (closes (kind-of number)) 1
 unfolding opens
-start-opens w c h = simp (eq-eqb (start c % 2) 0 (omega arith), h)
-
-atom-opens : (w : List ℕ) (c : ℕ) → datum w (start c) ≢ block-kind → opens w (start c) ≡ false
-unfolding opens
-atom-opens w c h = simp (eq-eqb (start c % 2) 0 (omega arith), ne-eqb _ _ h)
+start-opens w c number h = simp (eq-eqb (start c % 2) 0 (omega arith), h)
 
 close-shut : (w : List ℕ) (c : ℕ) → opens w (close c) ≡ false
 unfolding opens
@@ -107,23 +88,23 @@ close-shut w c = simp (ne-eqb (close c % 2) 0 (λ e. omega arith))
 
 module _ {text : List ℕ} {n : ℕ} {w : List ℕ} {free : ℕ} {t : Plan ℕ}
     (held : Holds text n w free t) (outermost : datum w (start n) ≡ block-kind) where
-  frame-kind : (f : Frame) (q : Plan ℕ) → t ≡ plug f q → datum w (start (cell-of n f)) ≡ block-kind
+  frame-kind : (f : Frame ℕ) (q : Plan ℕ) → t ≡ plug f q → datum w (start (cell-of n f)) ≡ block-kind
   frame-kind top q e = outermost
   frame-kind (within b c out a) q e = says-around text w (within b c out a) q (subst (Says text w) e (held .says)) .0 .2
 
   pub stand-opening : {port : ℕ} → Opening w n t port → Standing w n t port
   stand-opening {port} h =
-      at-opening h (rw (h .at) (start-opens w (cell-of n (h .frame)) (frame-kind (h .frame) (h .q) (h .there)))) (λ e. let at = h .at in omega arith)
+      at-opening h (rw (h .at) (start-opens w (cell-of n (h .frame)) block-kind (frame-kind (h .frame) (h .q) (h .ahead .there)))) (λ e. let at = h .at in omega arith)
 
-  module _ (f : Frame) (d : Plan ℕ) where
-    says-ahead : (z : Plan ℕ) → t ≡ plug f (d then z) → Says text w z
-    says-ahead z e = says-split text w d z (says-around text w f (d then z) (subst (Says text w) e (held .says)) .1) .1
+  module _ (f : Frame ℕ) (d : Plan ℕ) where
+    says-ahead : {z : Plan ℕ} → Inside t f d z → Says text w z
+    says-ahead {z} h = says-split text w d z (says-around text w f (d then z) (subst (Says text w) (h .there) (held .says)) .1) .1
 
     -- an operator or a token
     pass-atom : (c : ℕ) (i p : Plan ℕ) {port : ℕ} → inner (i then p) ≡ under (i then_) (inner p) → ports (i then p) ≡ start c ∷ ports p
-        → datum w (start c) ≢ block-kind → t ≡ plug f (d then (i then p)) → First port (onward n f (i then p)) → Linked w (onward n f (i then p))
-        → next t ≡ under (λ v. plug f (d then v)) (inner (i then p)) else beyond f (d then (i then p)) → Standing w n t port
-    pass-atom c i p {port} inside same kind there at chain left =
+        → opens w (start c) ≡ false → Inside t f d (i then p) → First port (onward n f (i then p)) → Linked w (onward n f (i then p))
+        → Standing w n t port
+    pass-atom c i p {port} within-it same shut inside at chain =
         let behind = close (cell-of n f) ∷ right n f in
         let here : port ≡ start c = subst (λ l. First port (l ++ behind)) same at in
         let on : Linked w (start c ∷ onward n f p) = subst (λ l. Linked w (l ++ behind)) same chain in
@@ -132,59 +113,40 @@ module _ {text : List ℕ} {n : ℕ} {w : List ℕ} {free : ℕ} {t : Plan ℕ}
           frame = f;
           d = d then i;
           z = p;
-          there = there ∙ ap (plug f) (sym (then-assoc d i p));
+          inside = inside-past d i p within-it inside;
           at = first-linked w (start c) (ports p) (close (cell-of n f)) (right n f) on;
           chain = linked-tail w (start c) (onward n f p) on;
-          left = (rw inside at left) ∙ simp (under-under, then-assoc);
-        } (atom-opens w c kind) (λ e. omega arith)
+        } shut (λ e. omega arith)
         )
 
-  -- a block: its inside opens
-  enter : (f : Frame) (d : Plan ℕ) (c : ℕ) (b p : Plan ℕ) (port : ℕ) → t ≡ plug f (d then block c b p) → First port (onward n f (block c b p))
-      → Linked w (onward n f (block c b p)) → next t ≡ under (λ v. plug f (d then v)) (inner (block c b p)) else beyond f (d then block c b p)
-      → Opening w n t port
-  unfolding plug ports right beyond inner next
-  enter f d c b p port there at chain left =
-      record {
-        frame = within d c f p;
-        q = b;
-        there = there;
-        at = at;
-        chain = simp append-assoc at chain;
-        left = left ∙ simp (under-rest, under-under);
-      }
-
   -- the close of a sequence
-  leave : (f : Frame) (d : Plan ℕ) (port : ℕ) → t ≡ plug f (d then end) → First port (onward n f end) → Linked w (onward n f end)
-      → next t ≡ under (λ v. plug f (d then v)) (inner end) else beyond f (d then end) → Standing w n t port
-  unfolding plug ports right beyond inner under _else_ _then_
-  leave top d port there at chain left = at-end left at
-  leave (within b c out a) d port there at chain left =
+  leave : (f : Frame ℕ) (d : Plan ℕ) (port : ℕ) → Inside t f d end → First port (onward n f end) → Linked w (onward n f end) → Standing w n t port
+  unfolding ports right
+  leave top d port inside at chain = at-end (inside-end inside) at
+  leave (within b c out a) d port inside at chain =
       let below = below-split n (labels t) (held .shared .spare) (held .shared .below) .0 in
-      let low = block-low n b c out a (d then end) (subst (λ v. Below n (labels v)) there below) in
+      let low = block-low n b c out a (d then end) (subst (λ v. Below n (labels v)) (inside .there) below) in
       rw at (
       passed record {
         frame = out;
         d = b then block c d end;
         z = a;
-        there = there ∙ simp (then-assoc, then-end);
+        inside = inside-leave inside;
         at = first-linked w (close c) (ports a) (close (cell-of n out)) (right n out) chain;
         chain = linked-tail w (close c) (onward n out a) chain;
-        left = left ∙ simp (then-assoc, then-end);
       } (close-shut w c) (λ e. omega arith)
       )
 
-  ahead-item : (f : Frame) (d z : Plan ℕ) (port : ℕ) → t ≡ plug f (d then z) → First port (onward n f z) → Linked w (onward n f z)
-      → next t ≡ under (λ v. plug f (d then v)) (inner z) else beyond f (d then z) → Standing w n t port
-  unfolding ports inner _then_
-  ahead-item f d end port there at chain left = leave f d port there at chain left
-  ahead-item f d (operator c o p) port there at chain left =
-      let kind = says-ahead f d (operator c o p) there .0 in
-      pass-atom f d c (operator c o end) p refl refl (λ e. omega (arith, kind-low o)) there at chain left
-  ahead-item f d (token c v p) port there at chain left =
-      let kind = says-ahead f d (token c v p) there .0 in
-      pass-atom f d c (token c v end) p refl refl (λ e. omega arith) there at chain left
-  ahead-item f d (block c b p) port there at chain left = stand-opening (enter f d c b p port there at chain left)
+  -- an item: the inside of a block opens
+  ahead-item : (f : Frame ℕ) (d z : Plan ℕ) (port : ℕ) → Inside t f d z → First port (onward n f z) → Linked w (onward n f z) → Standing w n t port
+  unfolding ports right inner _then_
+  ahead-item f d end port inside at chain = leave f d port inside at chain
+  ahead-item f d (operator c o p) port inside at chain =
+      pass-atom f d c (operator c o end) p refl refl (start-opens w c _ (says-ahead f d inside .0) ∙ ap (λ k. eqb (closes k) 1) (kind-told (OPERATOR o))) inside at chain
+  ahead-item f d (token c v p) port inside at chain =
+      pass-atom f d c (token c v end) p refl refl (start-opens w c _ (says-ahead f d inside .0)) inside at chain
+  ahead-item f d (block c b p) port inside at chain =
+      stand-opening record { frame = within d c f p; q = b; ahead = inside-enter inside; at = at; chain = simp append-assoc at chain }
 
   pub stand-passing : {port : ℕ} → Passing w n t port → Standing w n t port
-  stand-passing {port} h = ahead-item (h .frame) (h .d) (h .z) port (h .there) (h .at) (h .chain) (h .left)
+  stand-passing {port} h = ahead-item (h .frame) (h .d) (h .z) port (h .inside) (h .at) (h .chain)

@@ -1,6 +1,6 @@
 -- The walk of `hunt` along the chain of the whole plan. The way counts one cell more than are lent, since it may begin at the
 -- outermost start.
-use Prim.Native.Nat.{ℕ, suc, _+_, _/_, _≤_, _<_}
+use Prim.Native.Nat.{ℕ, suc, _/_, _≤_, _<_}
 use mathlib.Core.Path.{_≡_, refl, ap, sym, _∙_, subst}
 use mathlib.Core.Logic.{_≢_}
 use mathlib.Core.Bool.{Bool, true, false}
@@ -9,32 +9,21 @@ use native.Mathlib.Omega.{arith}
 use lib.ListN.{length}
 use Rattle.kinds.specs.Limits.{cellLimit}
 use Rattle.plan.specs.Plan.{Plan}
+use Rattle.plan.proofs.Frames.{found-ahead}
 use Rattle.memory.specs.Held.{HeldIn, held-numbers}
 use Rattle.memory.specs.Memory.{start, close, datum, link, block-kind, ports, Linked}
 use Rattle.memory.specs.Model.{Lent}
 use Rattle.memory.specs.declared.Held.{Held}
 use Rattle.memory.proofs.Lists.{linked-split}
 use Rattle.blocks.proofs.Ways.{ahead, Way, Turn, turn}
-use Rattle.hunt.specs.Frames.{cell-of}
-use Rattle.hunt.specs.Hunting.{SequenceAt, Scannable, Scanned, Finds, Huntable, opens}
+use Rattle.hunt.specs.Hunting.{SequenceAt, Scannable, Scanned, Finds, Huntable, cell-of, opens}
 use Rattle.hunt.specs.declared.Spot.{Spot}
 use Rattle.hunt.specs.declared.Hunted.{Hunted}
 use Rattle.hunt.specs.declared.Hunted.the-variants.{Nothing, Ready}
 use Rattle.hunt.proofs.Along.{way-whole, way-at}
 use Rattle.hunt.proofs.Frames.{left, chain-plug, inside-plug}
 use Rattle.hunt.proofs.One.{one-held}
-use Rattle.hunt.proofs.Standing.{
-  Standing,
-  onward,
-  Opening,
-  at-opening,
-  passed,
-  at-end,
-  stand-opening,
-  stand-passing,
-  pass-opening,
-  found-opening,
-}
+use Rattle.hunt.proofs.Standing.{Standing, onward, Opening, at-opening, passed, at-end, stand-opening, stand-passing, pass-opening}
 use Rattle.hunt.proofs.Tests.{outermost-datum}
 
 pub record Walking (text m : List ℕ) (h : Held) (stop port : ℕ) : Type 0 where
@@ -53,7 +42,7 @@ module _ {text m : List ℕ} {h : Held} {from : ℕ} (can : Huntable text m h fr
   w = held-numbers m h
 
   inside : SequenceAt text n w (cell-of n (can .awaits .frame)) (can .awaits .sequence)
-  inside = inside-plug (can .awaits .frame) (can .awaits .sequence) (subst (HeldIn text m h) (can .awaits .there) (can .held))
+  inside = inside-plug (can .awaits .frame) (can .awaits .sequence) (subst (HeldIn text m h) (can .awaits .ahead .there) (can .held))
 
   pub outer-small : n ≤ cellLimit
   outer-small = can .lent .few
@@ -66,7 +55,7 @@ module _ {text m : List ℕ} {h : Held} {from : ℕ} (can : Huntable text m h fr
       let f = can .awaits .frame in
       let q = can .awaits .sequence in
       let parts : start n ∷ (ports (can .plan) ++ close n ∷ []) ≡ left n f ++ start (cell-of n f) ∷ onward n f q =
-      ap (λ v. start n ∷ (ports v ++ close n ∷ [])) (can .awaits .there) ∙ chain-plug n f q in
+      ap (λ v. start n ∷ (ports v ++ close n ∷ [])) (can .awaits .ahead .there) ∙ chain-plug n f q in
       let from-there = linked-split w (left n f) (start (cell-of n f)) (onward n f q) (subst (Linked w) parts (can .held .chain)) .1 in
       rw (e, s, can .awaits .cell) record {
         lent = can .lent;
@@ -77,10 +66,9 @@ module _ {text m : List ℕ} {h : Held} {from : ℕ} (can : Huntable text m h fr
         standing = stand-opening (can .held) (outermost-datum n m (h .first .0) (start n) (can .lent) refl) record {
           frame = f;
           q = q;
-          there = can .awaits .there;
+          ahead = can .awaits .ahead;
           at = refl;
           chain = from-there;
-          left = can .awaits .first;
         };
       }
 
@@ -129,7 +117,7 @@ module _ {text m : List ℕ} {h : Held} {stop port : ℕ} (k : Walking text m h 
       cell = let at = o .at in omega arith
 
       sequence : SequenceAt text (h .outer .0) (held-numbers m h) (port / 2) (o .q)
-      sequence = rw cell at (inside-plug (o .frame) (o .q) (subst (HeldIn text m h) (o .there) (k .held)))
+      sequence = rw cell at (inside-plug (o .frame) (o .q) (subst (HeldIn text m h) (o .ahead .there) (k .held)))
 
       pub hunt-scannable : Scannable text m h (port / 2)
       hunt-scannable = record { lent = k .lent; sequence = o .q; there = sequence }
@@ -139,7 +127,7 @@ module _ {text m : List ℕ} {h : Held} {stop port : ℕ} (k : Walking text m h 
         hunt-found spot e t held =
             let found : Scanned (Ready spot) (port / 2) (o .q) = subst (λ a. Scanned a (port / 2) (o .q)) e (scanned (o .q) sequence) in
             subst (Finds (Ready spot) (h .outer .0)) (one-held (k .held) held)
-            (o .frame, o .q, found .0, o .there, rw cell (found .1), found-opening o (found .2))
+            (o .frame, o .q, found .0, o .ahead .there, rw cell (found .1), found-ahead (o .ahead) (found .2))
 
         pub hunt-past : r ≡ Nothing → (next : ℕ) → next ≡ link (held-numbers m h) port → Walking text m h stop next
         hunt-past e next on =

@@ -1,191 +1,112 @@
--- What the scan of a sequence knows of the items that it has passed, on plain plans: which of the last two are blocks, that no
--- operator before them is ready, and the ports before them. With at most two blocks and the next item at hand, whether that
--- item is a ready operator is the computation of the rule itself.
-use Prim.Native.Nat.{ℕ, _+_, _/_, _%_, _≤_, _<_}
+-- The windows of a scan in the memory: which ports stand before the items that are not yet passed, and that the test of an
+-- operator by those ports is the rule's own.
+use Prim.Native.Nat.{ℕ, _/_, _%_}
 use mathlib.Core.Path.{_≡_, refl, ap, sym, _∙_, subst}
 use mathlib.Core.List.{List, [], _∷_, _++_}
-use mathlib.Core.Option.{Option, none, some}
+use mathlib.Core.Bool.{true, false}
+use mathlib.Core.Option.{none}
 use native.Mathlib.Omega.{arith}
 use Rattle.plan.specs.Plan.{Plan, end, operator, token, block, _then_}
 use Rattle.plan.specs.declared.Operator.{Operator}
 use Rattle.plan.specs.declared.Operator.the-variants.{A as op-a, B as op-b, C as op-c, D as op-d}
-use Rattle.plan.specs.Options.{_else_, under}
-use Rattle.plan.specs.Rewriting.{after-two, first-block, outer}
-use Rattle.plan.proofs.Plans.{then-assoc}
-use Rattle.memory.specs.Memory.{start, close, operator-kind, ports, last-of}
+use Rattle.plan.specs.Rewriting.{after-two, first-block}
+use Rattle.plan.proofs.Windows.{Front, Window, no-block, one-block, two-blocks, Ready as At, ready}
+use Rattle.plan.proofs.Windows.{past, past-operator, past-token, past-block, window-block}
+use Rattle.memory.specs.Memory.{start, close, ports, last-of}
+use Rattle.memory.specs.declared.Kind.the-variants.{Operator as OPERATOR}
+use Rattle.memory.proofs.Lists.{last-append}
 use Rattle.memory.proofs.Ports.{ports-then}
-use Rattle.hunt.specs.Hunting.{by-a, by-b, by-c, by-d, Scanned, ready-at, spot-at}
+use Rattle.hunt.specs.Hunting.{RuleAt, Scanned, Stands, port-behind, ready-at, spot-at, takes-two}
+use Rattle.hunt.specs.declared.Spot.{Spot}
 use Rattle.hunt.specs.declared.Hunted.{Hunted}
 use Rattle.hunt.specs.declared.Hunted.the-variants.{Nothing, Ready}
-use Rattle.hunt.proofs.Tests.{behind-two, second-missing, both-missing, behind-one, block-missing}
+use Rattle.hunt.proofs.Tests.{two-there, second-missing, one-there, none-there}
 
--- in the sequence q inside the cell s, z is behind the port `before`, and the leftmost ready operator is one of z's
-pub record Front (s : ℕ) (q : Plan ℕ) (before : ℕ) (z : Plan ℕ) : Type 0 where
-  pub front : Plan ℕ
-  pub parts : q ≡ front then z
-  pub at : before ≡ last-of (start s) (ports front)
-  pub found : outer q ≡ under (front then_) (outer z)
+-- the last three ports: a block's close, which is odd, for each block at hand, and before those the port behind which they stand
+abbrev pub Seen : (s : ℕ) → {q y : Plan ℕ} → Window q y → (last second third : ℕ) → Type 0
+Seen s (no-block h) last second third = (last ≡ port-behind s (h .front)) × (last % 2 ≡ 0)
+Seen s (one-block m A h) last second third = (last ≡ close m) × (second ≡ port-behind s (h .front)) × (second % 2 ≡ 0)
+Seen s (two-blocks l B m A h) last second third = (last ≡ close m) × (second ≡ close l) × (third ≡ port-behind s (h .front))
 
--- the items before y: the last one is no block; or it is, and the one before it is none; or both are
-pub data Window (s : ℕ) (q : Plan ℕ) (last second third : ℕ) (y : Plan ℕ) : Type 0 where
-  no-block : Front s q last y → last % 2 ≡ 0 → Window s q last second third y
-  one-block : (m : ℕ) (A : Plan ℕ) → Front s q second (block m A y) → last ≡ close m → second % 2 ≡ 0 → Window s q last second third y
-  two-blocks : (l : ℕ) (B : Plan ℕ) (m : ℕ) (A : Plan ℕ) → Front s q third (block l B (block m A y)) → last ≡ close m → second ≡ close l
-      → Window s q last second third y
+-- a sequence that ends in an item ends at that item's last port
+pub ends-in-block : (x : ℕ) (Y : Plan ℕ) (m : ℕ) (A : Plan ℕ) → last-of x (ports (Y then block m A end)) ≡ close m
+unfolding ports
+ends-in-block x Y m A =
+    ap (last-of x) (ports-then Y (block m A end)) ∙ last-append x (start m) (ports Y) (ports A ++ close m ∷ [])
+    ∙ last-append (start m) (close m) (ports A) []
 
-last-join : (x : ℕ) (xs ys : List ℕ) → last-of x (xs ++ ys) ≡ last-of (last-of x xs) ys
-last-join x [] ys = refl
-last-join x (z ∷ xs) ys = last-join z xs ys
+ends-in-atom : (x : ℕ) (Y i : Plan ℕ) (c : ℕ) → ports i ≡ start c ∷ [] → last-of x (ports (Y then i)) ≡ start c
+ends-in-atom x Y i c e = ap (last-of x) (ports-then Y i ∙ ap (ports Y ++_) e) ∙ last-append x (start c) (ports Y) []
 
-under-then : (p q : Plan ℕ) (x : Option (Plan ℕ)) → under (p then_) (under (q then_) x) ≡ under ((p then q) then_) x
-unfolding under
-under-then p q none = refl
-under-then p q (some v) = ap some (sym (then-assoc p q v))
+module _ (s : ℕ) {q : Plan ℕ} where
+  pub seen-token : {c : ℕ} {t : List ℕ} {p : Plan ℕ} (h : Front q (token c t p)) (last second : ℕ) → Seen s (no-block (past-token h)) (start c) last second
+  unfolding past-token past ports
+  seen-token {c} {t} h last second = (sym (ends-in-atom (start s) (h .front) (token c t end) c refl), omega arith)
 
--- an item i that is no part of a ready operator's rewrite is passed
-past : {s : ℕ} {q : Plan ℕ} {before : ℕ} {z : Plan ℕ} → Front s q before z → (i z′ : Plan ℕ) (port : ℕ) → z ≡ i then z′
-    → outer z ≡ under (i then_) (outer z′) → ((x : ℕ) → port ≡ last-of x (ports i)) → Front s q port z′
-past {s} {q} {before} {z} h i z′ port e found ends =
-    record {
-      front = h .front then i;
-      parts = h .parts ∙ ap (h .front then_) e ∙ sym (then-assoc (h .front) i z′);
-      at = ends _ ∙ sym (ap (last-of (start s)) (ports-then (h .front) i) ∙ last-join (start s) (ports (h .front)) (ports i));
-      found = h .found ∙ ap (under (h .front then_)) found ∙ under-then (h .front) i (outer z′);
-    }
+  seen-operator : {c : ℕ} {o : Operator} {p : Plan ℕ} (h : Front q (operator c o p)) (last second : ℕ) → Seen s (no-block (past-operator h)) (start c) last second
+  unfolding past-operator past ports
+  seen-operator {c} {o} h last second = (sym (ends-in-atom (start s) (h .front) (operator c o end) c refl), omega arith)
 
-pub begin : (s : ℕ) (q : Plan ℕ) (second third : ℕ) → Window s q (start s) second third q
-unfolding _then_ ports under
-begin s q second third = no-block record { front = end; parts = refl; at = refl; found = same (outer q) } (omega arith)
-  where
-    same : (x : Option (Plan ℕ)) → x ≡ under (end then_) x
-    same none = refl
-    same (some v) = refl
-
-past-operator : {s : ℕ} {q : Plan ℕ} {before c : ℕ} {o : Operator} {p : Plan ℕ} → Front s q before (operator c o p) → Front s q (start c) p
-unfolding _then_ ports outer
-past-operator {c} {o} {p} h = past h (operator c o end) p (start c) refl refl (λ x. refl)
-
-past-token : {s : ℕ} {q : Plan ℕ} {before c : ℕ} {t : List ℕ} {p : Plan ℕ} → Front s q before (token c t p) → Front s q (start c) p
-unfolding _then_ ports outer
-past-token {c} {t} {p} h = past h (token c t end) p (start c) refl refl (λ x. refl)
-
-past-block : {s : ℕ} {q : Plan ℕ} {before m : ℕ} {A p : Plan ℕ} → Front s q before (block m A p) → first-block m A p ≡ none → Front s q (close m) p
-unfolding _then_ ports outer _else_
-past-block {m} {A} {p} h e =
-    past h (block m A end) p (close m) refl (ap (_else under (block m A) (outer p)) e) (λ x. sym (last-join (start m) (ports A) (close m ∷ [])))
-
-module _ {s : ℕ} {q : Plan ℕ} {last second third : ℕ} {y : Plan ℕ} where
-  -- nothing of y is ready, whatever stands before it
-  past-all : Window s q last second third y → ((l : ℕ) (B : Plan ℕ) (m : ℕ) (A : Plan ℕ) → after-two l B m A y ≡ none)
-      → ((m : ℕ) (A : Plan ℕ) → first-block m A y ≡ none) → Front s q last y
-  unfolding first-block
-  past-all (no-block h e) two one = h
-  past-all (one-block m A h e d) two one = subst (λ p. Front s q p y) (sym e) (past-block h (one m A))
-  past-all (two-blocks l B m A h e d) two one = subst (λ p. Front s q p y) (sym e) (past-block (past-block h (two l B m A)) (one m A))
-
--- at the end
-pub none-ready : {s : ℕ} {q : Plan ℕ} {last second third : ℕ} → Window s q last second third end → outer q ≡ none
-unfolding after-two first-block outer under
-none-ready h = past-all h (λ l B m A. refl) (λ m A. refl) .found
-
--- behind a token no block is at hand
-pub window-token : {s : ℕ} {q : Plan ℕ} {last second third c : ℕ} {t : List ℕ} {p : Plan ℕ} → Window s q last second third (token c t p)
-    → Window s q (start c) last second p
-unfolding after-two first-block
-window-token h = no-block (past-token (past-all h (λ l B m A. refl) (λ m A. refl))) (omega arith)
-
--- behind a block it is the newer one
-pub window-block : {s : ℕ} {q : Plan ℕ} {last second third c : ℕ} {C p : Plan ℕ} → Window s q last second third (block c C p)
-    → Window s q (close c) last second p
-unfolding first-block after-two
-window-block {c} {C} (no-block h e) = one-block c C h refl e
-window-block {c} {C} (one-block m A h e d) = two-blocks m A c C h refl e
-window-block {s} {q} {second} {c} {C} {p} (two-blocks l B m A h e d) =
-    two-blocks m A c C (subst (λ z. Front s q z (block m A (block c C p))) (sym d) (past-block h refl)) refl e
+  pub seen-block : {c : ℕ} {C p : Plan ℕ} (last second third : ℕ) (w : Window q (block c C p)) → Seen s w last second third
+      → Seen s (window-block w) (close c) last second
+  unfolding window-block past-block past
+  seen-block last second third (no-block h) k = (refl, k .0, k .1)
+  seen-block last second third (one-block m A h) k = (refl, k .0, k .1)
+  seen-block last second third (two-blocks l B m A h) k = (refl, k .0, k .1 ∙ sym (ends-in-block (start s) (h .front) l B))
 
 -- what the test of the operator at a port says: it is passed, and p is behind it; or it is ready
 abbrev pub Tested : Hunted → (s : ℕ) → (q : Plan ℕ) → (at last second : ℕ) → (p : Plan ℕ) → Type 0
-Tested Nothing s q at last second p = Window s q at last second p
+Tested Nothing s q at last second p = (w : Window q p) × Seen s w at last second
 Tested (Ready spot) s q at last second p = Scanned (Ready spot) s q
 
 module _ (s : ℕ) (q : Plan ℕ) (last second third c : ℕ) (p : Plan ℕ) where
-  abbrev test : (kind : ℕ) → Hunted
-  test kind = ready-at kind (start c) last second third
-
   abbrev Answer : Hunted → Type 0
   Answer r = Tested r s q (start c) last second p
 
-  not-ready : {o : Operator} {before : ℕ} (kind : ℕ) → Nothing ≡ test kind → Front s q before (operator c o p) → Answer (test kind)
-  not-ready kind e h = subst Answer e (no-block (past-operator h) (omega arith))
+  module _ (o : Operator) where
+    abbrev test : Hunted
+    test = ready-at (OPERATOR o) (start c) last second third
 
-  self : start c / 2 ≡ c
-  self = omega arith
+    not-ready : Nothing ≡ test → Front q (operator c o p) → Answer test
+    not-ready e h = subst Answer e (no-block (past-operator h), seen-operator s h last second)
 
-  -- the operators a and b are ready behind two blocks and not behind one
-  two-wanted : (o : Operator) (kind : ℕ) → kind < 2 → ((m : ℕ) (A : Plan ℕ) → first-block m A (operator c o p) ≡ none)
-      → ((l : ℕ) (B : Plan ℕ) (m : ℕ) (A : Plan ℕ) → Front s q third (block l B (block m A (operator c o p))) → last / 2 ≡ m → second / 2 ≡ l
-      → Scanned (Ready (spot-at kind (start c) last second third)) s q)
-      → Window s q last second third (operator c o p) → Answer (test kind)
-  two-wanted o kind low one two (no-block h e) = not-ready kind (both-missing kind (start c) last second third low (omega arith)) h
-  two-wanted o kind low one two (one-block m A h e d) =
-      not-ready kind (second-missing kind (start c) last second third low (omega arith) (omega arith)) (past-block h (one m A))
-  two-wanted o kind low one two (two-blocks l B m A h e d) =
-      subst Answer (behind-two kind (start c) last second third low (omega arith) (omega arith)) (two l B m A h (omega arith) (omega arith))
+    is-ready : {l m before : ℕ} {X : Plan ℕ} → Ready (spot-at o (start c) last second before) ≡ test → before ≡ port-behind s X → last / 2 ≡ m
+        → second / 2 ≡ l → At o l m c X p q → Answer test
+    is-ready {X} e at newer older h =
+        let self : start c / 2 ≡ c = omega arith in
+        subst Answer e (h .result, record { front = X; behind = p; before = at; rule = rw (older, newer, self) (h .rule) }, h .leftmost)
 
-  ready-a : (l : ℕ) (B : Plan ℕ) (m : ℕ) (A : Plan ℕ) → Front s q third (block l B (block m A (operator c op-a p))) → last / 2 ≡ m → second / 2 ≡ l
-      → Scanned (Ready (spot-at 0 (start c) last second third)) s q
-  unfolding outer first-block after-two under _else_
-  ready-a l B m A h newer older = (
-    h .front then (A then block l B p),
-    record { front = h .front; behind = p; before = h .at; rule = by-a B A refl (rw (older, newer, self) (h .parts)) (rw older) },
-    h .found,
-  )
+    -- the operators a and b are ready behind two blocks and not behind one
+    two-wanted : takes-two o ≡ true → ((m : ℕ) (A : Plan ℕ) → first-block m A (operator c o p) ≡ none)
+        → ((l : ℕ) (B : Plan ℕ) (m : ℕ) (A : Plan ℕ) (h : Front q (block l B (block m A (operator c o p)))) → At o l m c (h .front) p q)
+        → (w : Window q (operator c o p)) → Seen s w last second third → Answer test
+    two-wanted t one two (no-block h) (a, e) = not-ready (none-there o refl (start c) last second third (omega arith)) h
+    two-wanted t one two (one-block m A h) (e, a, d) =
+        not-ready (second-missing o refl (start c) last second third (omega arith) refl t (omega arith)) (past-block h (one m A))
+    two-wanted t one two (two-blocks l B m A h) (e, d, a) =
+        is-ready (two-there o refl (start c) last second third (omega arith) refl t (omega arith)) a (omega arith) (omega arith) (two l B m A h)
 
-  ready-b : (l : ℕ) (B : Plan ℕ) (m : ℕ) (A : Plan ℕ) → Front s q third (block l B (block m A (operator c op-b p))) → last / 2 ≡ m → second / 2 ≡ l
-      → Scanned (Ready (spot-at 1 (start c) last second third)) s q
-  unfolding outer first-block after-two under _else_
-  ready-b l B m A h newer older = (
-    h .front then block m (block l B A) p,
-    record { front = h .front; behind = p; before = h .at; rule = by-b B A refl (rw (older, newer, self) (h .parts)) (rw (older, newer)) },
-    h .found,
-  )
+    -- the operators c and d are ready behind one block, whatever stands before it
+    one-wanted : takes-two o ≡ false → ((l : ℕ) (B : Plan ℕ) (m : ℕ) (A : Plan ℕ) → after-two l B m A (operator c o p) ≡ none)
+        → ((l m : ℕ) (A : Plan ℕ) (h : Front q (block m A (operator c o p))) → At o l m c (h .front) p q)
+        → (w : Window q (operator c o p)) → Seen s w last second third → Answer test
+    unfolding first-block past-block past
+    one-wanted t two one (no-block h) (a, e) = not-ready (none-there o refl (start c) last second third (omega arith)) h
+    one-wanted t two one (one-block m A h) (e, a, d) =
+        is-ready (one-there o refl (start c) last second third (omega arith) refl t) a (omega arith) refl (one _ m A h)
+    one-wanted t two one (two-blocks l B m A h) (e, d, a) =
+        is-ready (one-there o refl (start c) last second third (omega arith) refl t) (d ∙ sym (ends-in-block (start s) (h .front) l B)) (omega arith) refl
+        (one _ m A (past-block h (two l B m A)))
 
-  -- the operators c and d are ready behind one block, whatever stands before it
-  one-wanted : (o : Operator) (kind : ℕ) → 2 ≤ kind → kind < 4
-      → ((l : ℕ) (B : Plan ℕ) (m : ℕ) (A : Plan ℕ) → after-two l B m A (operator c o p) ≡ none)
-      → ((m : ℕ) (A : Plan ℕ) → Front s q second (block m A (operator c o p)) → last / 2 ≡ m
-      → Scanned (Ready (spot-at kind (start c) last second second)) s q)
-      → Window s q last second third (operator c o p) → Answer (test kind)
-  unfolding first-block
-  one-wanted o kind high low two one (no-block h e) = not-ready kind (block-missing kind (start c) last second third high low (omega arith)) h
-  one-wanted o kind high low two one (one-block m A h e d) =
-      subst Answer (behind-one kind (start c) last second third high low (omega arith)) (one m A h (omega arith))
-  one-wanted o kind high low two one (two-blocks l B m A h e d) =
-      let nearer : Front s q second (block m A (operator c o p)) = rw d (past-block h (two l B m A)) in
-      subst Answer (behind-one kind (start c) last second third high low (omega arith)) (one m A nearer (omega arith))
+  pub tested-operator : (o : Operator) (w : Window q (operator c o p)) → Seen s w last second third
+      → Answer (ready-at (OPERATOR o) (start c) last second third)
+  unfolding first-block after-two _then_
+  tested-operator op-a w k = two-wanted op-a refl (λ m A. refl) (λ l B m A h. ready op-a B A h) w k
+  tested-operator op-b w k = two-wanted op-b refl (λ m A. refl) (λ l B m A h. ready op-b B A h) w k
+  tested-operator op-c w k = one-wanted op-c refl (λ l B m A. refl) (λ l m A h. ready op-c end A h) w k
+  tested-operator op-d w k = one-wanted op-d refl (λ l B m A. refl) (λ l m A h. ready op-d end A h) w k
 
-  ready-c : (m : ℕ) (A : Plan ℕ) → Front s q second (block m A (operator c op-c p)) → last / 2 ≡ m
-      → Scanned (Ready (spot-at 2 (start c) last second second)) s q
-  unfolding outer first-block under _else_
-  ready-c m A h newer = (
-    h .front then block m A (block m A p),
-    record { front = h .front; behind = p; before = h .at; rule = by-c A refl (rw (newer, self) (h .parts)) (rw newer) },
-    h .found,
-  )
-
-  ready-d : (m : ℕ) (A : Plan ℕ) → Front s q second (block m A (operator c op-d p)) → last / 2 ≡ m
-      → Scanned (Ready (spot-at 3 (start c) last second second)) s q
-  unfolding outer first-block under _else_
-  ready-d m A h newer = (
-    h .front then p,
-    record { front = h .front; behind = p; before = h .at; rule = by-d A refl (rw (newer, self) (h .parts)) refl },
-    h .found,
-  )
-
-  pub window-operator : (o : Operator) → Window s q last second third (operator c o p)
-      → Tested (ready-at (operator-kind o) (start c) last second third) s q (start c) last second p
-  unfolding first-block after-two
-  window-operator op-a h = two-wanted op-a 0 (omega arith) (λ m A. refl) ready-a h
-  window-operator op-b h = two-wanted op-b 1 (omega arith) (λ m A. refl) ready-b h
-  window-operator op-c h = one-wanted op-c 2 (omega arith) (omega arith) (λ l B m A. refl) ready-c h
-  window-operator op-d h = one-wanted op-d 3 (omega arith) (omega arith) (λ l B m A. refl) ready-d h
+-- the rule at a spot, once it is known which operator stands there
+pub stands-rule : {spot : Spot} {s : ℕ} {q q′ : Plan ℕ} (k : Stands spot s q q′) {o : Operator} → spot .which ≡ o
+    → RuleAt spot o (k .front) (k .behind) q q′
+stands-rule {spot} {q} {q′} k is = subst (λ o. RuleAt spot o (k .front) (k .behind) q q′) is (k .rule)

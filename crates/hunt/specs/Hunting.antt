@@ -1,40 +1,45 @@
 -- What a hunt for a ready operator answers: where the operator stands, and which plan its rewrite gives.
-use Prim.Native.Nat.{ℕ, _+_, _/_, _%_, _≤_}
+use Prim.Native.Nat.{ℕ, _/_, _%_, _≤_}
 use mathlib.Core.Path.{_≡_}
-use mathlib.Core.Bool.{Bool, false, cond}
+use mathlib.Core.Bool.{Bool, true, false, cond}
 use mathlib.Core.Option.{none, some}
 use mathlib.Core.List.{List, [], _∷_, _++_}
-use lib.Dec.{eqb, ltb}
-use Rattle.plan.specs.Plan.{Plan, operator, block, _then_, labels}
+use lib.Dec.{eqb}
+use Rattle.plan.specs.Frames.{Frame, top, within, plug, Ahead, Rule}
+use Rattle.plan.specs.Plan.{Plan, labels}
+use Rattle.plan.specs.declared.Operator.{Operator}
 use Rattle.plan.specs.declared.Operator.the-variants.{A as op-a, B as op-b, C as op-c, D as op-d}
 use Rattle.plan.specs.Rewriting.{outer, next}
 use Rattle.memory.specs.Held.{HeldIn, held-numbers}
-use Rattle.memory.specs.Memory.{start, close, datum, block-kind, ports, Linked, Says, Below, Distinct, last-of}
+use Rattle.memory.specs.Memory.{start, close, datum, ports, Linked, Says, Below, Distinct, last-of}
 use Rattle.memory.specs.Model.{Lent}
+use Rattle.memory.specs.Numbered.{kind-of}
 use Rattle.memory.specs.declared.Held.{Held}
-use Rattle.hunt.specs.Frames.{Frame, plug, cell-of, Awaits}
+use Rattle.memory.specs.declared.Kind.{Kind}
+use Rattle.memory.specs.declared.Kind.the-variants.{Operator as OPERATOR, Token as TOKEN, Block as BLOCK}
 use Rattle.hunt.specs.declared.Spot.{Spot}
 use Rattle.hunt.specs.declared.Hunted.{Hunted}
 use Rattle.hunt.specs.declared.Hunted.the-variants.{Nothing, Ready}
 
--- The operator at the spot stands behind its blocks in q, with X before them and p behind it: which of the four rules it is,
--- and q as that rule leaves it.
-pub data Rule (spot : Spot) (X p q q′ : Plan ℕ) : Type 0 where
-  by-a : (B A : Plan ℕ) → spot .kind ≡ 0 → q ≡ X then block (spot .older .0) B (block (spot .newer .0) A (operator (spot .operator .0) op-a p))
-      → q′ ≡ X then (A then block (spot .older .0) B p) → Rule spot X p q q′
-  by-b : (B A : Plan ℕ) → spot .kind ≡ 1 → q ≡ X then block (spot .older .0) B (block (spot .newer .0) A (operator (spot .operator .0) op-b p))
-      → q′ ≡ X then block (spot .newer .0) (block (spot .older .0) B A) p → Rule spot X p q q′
-  by-c : (A : Plan ℕ) → spot .kind ≡ 2 → q ≡ X then block (spot .newer .0) A (operator (spot .operator .0) op-c p)
-      → q′ ≡ X then block (spot .newer .0) A (block (spot .newer .0) A p) → Rule spot X p q q′
-  by-d : (A : Plan ℕ) → spot .kind ≡ 3 → q ≡ X then block (spot .newer .0) A (operator (spot .operator .0) op-d p)
-      → q′ ≡ X then p → Rule spot X p q q′
+-- the cell that a sequence is the inside of: cell number n for the outermost one
+abbrev pub cell-of : (n : ℕ) → Frame ℕ → ℕ
+cell-of n top = n
+cell-of n (within before c out after) = c
+
+-- the port that links to what stands behind the items X, which begin the sequence inside the cell s
+abbrev pub port-behind : (s : ℕ) → (X : Plan ℕ) → ℕ
+port-behind s X = last-of (start s) (ports X)
+
+-- the rule of the operator o at the spot
+abbrev pub RuleAt : Spot → Operator → (X p q q′ : Plan ℕ) → Type 0
+RuleAt spot o X p q q′ = Rule o (spot .older .0) (spot .newer .0) (spot .operator .0) X p q q′
 
 -- in the sequence q inside the cell s, the spot's rewrite gives q′; `before` is the port that links to the first of its blocks
 pub record Stands (spot : Spot) (s : ℕ) (q q′ : Plan ℕ) : Type 0 where
   pub front : Plan ℕ
   pub behind : Plan ℕ
-  pub before : spot .before .0 ≡ last-of (start s) (ports front)
-  pub rule : Rule spot front behind q q′
+  pub before : spot .before .0 ≡ port-behind s front
+  pub rule : RuleAt spot (spot .which) front behind q q′
 
 -- w has the sequence q inside the cell s, from its start to its close
 pub record SequenceAt (text : List ℕ) (n : ℕ) (w : List ℕ) (s : ℕ) (q : Plan ℕ) : Type 0 where
@@ -58,7 +63,15 @@ Scanned (Ready spot) s q = (q′ : Plan ℕ) × Stands spot s q q′ × (outer q
 abbrev pub Finds : Hunted → (n : ℕ) → (t : Plan ℕ) → Type 0
 Finds Nothing n t = next t ≡ none
 Finds (Ready spot) n t =
-    (f : Frame) × (q : Plan ℕ) × (q′ : Plan ℕ) × (t ≡ plug f q) × Stands spot (cell-of n f) q q′ × (next t ≡ some (plug f q′))
+    (f : Frame ℕ) × (q : Plan ℕ) × (q′ : Plan ℕ) × (t ≡ plug f q) × Stands spot (cell-of n f) q q′ × (next t ≡ some (plug f q′))
+
+-- The sequence inside the cell `from` is the first that may have a ready operator: the plan's next rewrite is one there, or
+-- inside it, or behind it.
+pub record Awaits (n : ℕ) (t : Plan ℕ) (from : ℕ) : Type 0 where
+  pub frame : Frame ℕ
+  pub sequence : Plan ℕ
+  pub ahead : Ahead t frame sequence
+  pub cell : from ≡ cell-of n frame
 
 -- the memory holds a plan whose first sequence that may have a ready operator is inside the cell `from`
 pub record Huntable (text m : List ℕ) (h : Held) (from : ℕ) : Type 0 where
@@ -67,24 +80,38 @@ pub record Huntable (text m : List ℕ) (h : Held) (from : ℕ) : Type 0 where
   pub held : HeldIn text m h plan
   pub awaits : Awaits (h .outer .0) plan from
 
+-- how many ports an item has behind its start: a block has its close
+abbrev pub closes : Kind → ℕ
+closes (OPERATOR o) = 0
+closes TOKEN = 0
+closes BLOCK = 1
+
 -- a block opens at the port: at the outermost start too
 unfoldable pub opens : List ℕ → (port : ℕ) → Bool
-opens w port = cond (eqb (port % 2) 0) (eqb (datum w port) block-kind) false
+opens w port = cond (eqb (port % 2) 0) (eqb (closes (kind-of (datum w port))) 1) false
 
 -- the operator at the port `at`, behind blocks that close at the last two ports
-abbrev pub spot-at : (kind at last second before : ℕ) → Spot
-spot-at kind at last second before = record {
-  kind = kind;
+abbrev pub spot-at : Operator → (at last second before : ℕ) → Spot
+spot-at o at last second before = record {
+  which = o;
   before = record { 0 = before };
   older = record { 0 = second / 2 };
   newer = record { 0 = last / 2 };
   operator = record { 0 = at / 2 };
 }
 
--- Whether the operator at the port `at` is ready, by its kind and the three ports before the items before it: a port that is
--- odd is a block's close, so the item before is a block.
-unfoldable pub ready-at : (kind at last second third : ℕ) → Hunted
-ready-at kind at last second third =
-    cond (ltb kind 2)
-    (cond (eqb (last % 2) 1) (cond (eqb (second % 2) 1) (Ready (spot-at kind at last second third)) Nothing) Nothing)
-    (cond (ltb kind 4) (cond (eqb (last % 2) 1) (Ready (spot-at kind at last second second)) Nothing) Nothing)
+abbrev pub takes-two : Operator → Bool
+takes-two op-a = true
+takes-two op-b = true
+takes-two op-c = false
+takes-two op-d = false
+
+-- Whether the item at the port `at` is a ready operator, by the three ports before the items before it: a port that is odd is a
+-- block's close, so the item before is a block.
+abbrev pub ready-at : Kind → (at last second third : ℕ) → Hunted
+ready-at (OPERATOR o) at last second third =
+    cond (eqb (last % 2) 1)
+    (cond (takes-two o) (cond (eqb (second % 2) 1) (Ready (spot-at o at last second third)) Nothing) (Ready (spot-at o at last second second)))
+    Nothing
+ready-at TOKEN at last second third = Nothing
+ready-at BLOCK at last second third = Nothing

@@ -7,17 +7,19 @@ ghost use Rattle.plan.specs.Plan.{Plan};
 ghost use Rattle.memory.specs.Held.{HeldIn, held-numbers};
 ghost use Rattle.memory.specs.Memory.{start, whole};
 ghost use Rattle.memory.specs.Model.{Lent};
-ghost use Rattle.hunt.specs.Hunting.{Finds, Huntable, Scannable, Scanned, SequenceAt, opens, ready-at};
+ghost use Rattle.hunt.specs.Hunting.{Finds, Huntable, Scannable, Scanned, SequenceAt, closes, opens, ready-at, takes-two};
 use kinds::Cell;
-use memory::BLOCK_KIND;
 use memory::Held;
+use memory::Kind;
 use memory::Port;
+use memory::kind_at;
 use memory::link_of;
+use plan::Operator;
 
-// A ready operator: its kind, the port that links to the first of its blocks, its blocks and itself. The operators c and d have
-// the newer block alone.
+// A ready operator: which one it is, the port that links to the first of its blocks, its blocks and itself. The operators c and
+// d have the newer block alone.
 pub struct Spot {
-    pub kind: u32,
+    pub which: Operator,
     pub before: Port,
     pub older: Cell,
     pub newer: Cell,
@@ -29,40 +31,65 @@ pub enum Hunted {
     Ready(Spot),
 }
 
-// Whether the operator at a port is ready. An odd port is a block's close: so the last two ports tell whether the items before
-// are blocks.
-fn ready_at(kind: u32, at: Port, last: Port, second: Port, third: Port) -> Hunted
+// The operators a and b take two blocks, c and d one.
+fn takes_two(which: Operator) -> bool
+    ensures { λ r. ⌜ r ≡ takes-two which ⌝ }
+{
+    match which {
+        Operator::A => true,
+        Operator::B => true,
+        Operator::C => false,
+        Operator::D => false,
+    }
+}
+
+// Whether the item at a port is a ready operator. An odd port is a block's close: so the last two ports tell whether the items
+// before are blocks.
+fn ready_at(kind: Kind, at: Port, last: Port, second: Port, third: Port) -> Hunted
     ensures { λ r. ⌜ r ≡ ready-at kind (at .0) (last .0) (second .0) (third .0) ⌝ }
 {
     let newer = Cell(last.0 / 2);
     let older = Cell(second.0 / 2);
     let operator = Cell(at.0 / 2);
-    if kind < 2 {
-        if last.0 % 2 == 1 {
-            if second.0 % 2 == 1 {
+    match kind {
+        Kind::Token => Hunted::Nothing,
+        Kind::Block => Hunted::Nothing,
+        Kind::Operator(which) => {
+            if last.0 % 2 != 1 {
+                return Hunted::Nothing;
+            }
+            if takes_two(which) {
+                if second.0 % 2 != 1 {
+                    return Hunted::Nothing;
+                }
                 return Hunted::Ready(Spot {
-                    kind,
+                    which,
                     before: third,
                     older,
                     newer,
                     operator,
                 });
             }
-        }
-        return Hunted::Nothing;
-    }
-    if kind < 4 {
-        if last.0 % 2 == 1 {
-            return Hunted::Ready(Spot {
-                kind,
+            Hunted::Ready(Spot {
+                which,
                 before: second,
                 older,
                 newer,
                 operator,
-            });
+            })
         }
     }
-    Hunted::Nothing
+}
+
+// How many ports an item has behind its start: a block has its close.
+fn closes(kind: Kind) -> u32
+    ensures { λ r. ⌜ r ≡ closes kind ⌝ }
+{
+    match kind {
+        Kind::Operator(_) => 0,
+        Kind::Token => 0,
+        Kind::Block => 1,
+    }
 }
 
 // The leftmost ready operator of the sequence inside a cell.
@@ -78,19 +105,14 @@ pub fn scan(text: &[u8], memory: &[u32], held: Held, sequence: Cell) -> Hunted
     let mut last = third;
     let mut at = link_of(memory, outer, first, last);
     while at.0 != end.0 {
-        let number = 2 * at.0 as usize;
-        let kind = memory[number];
+        let kind = kind_at(memory, at);
         match ready_at(kind, at, last, second, third) {
             Hunted::Ready(spot) => return Hunted::Ready(spot),
             Hunted::Nothing => {}
         }
         third = second;
         second = last;
-        last = if kind == BLOCK_KIND {
-            Port(at.0 + 1)
-        } else {
-            at
-        };
+        last = Port(at.0 + closes(kind));
         at = link_of(memory, outer, first, last);
     }
     Hunted::Nothing
@@ -107,8 +129,7 @@ fn opens(memory: &[u32], outer: Cell, first: Port, port: Port) -> bool
     if port.0 == 2 * outer.0 {
         return true;
     }
-    let number = 2 * port.0 as usize;
-    memory[number] == BLOCK_KIND
+    closes(kind_at(memory, port)) == 1
 }
 
 // The next ready operator of the plan, from the sequence inside a cell on: nothing before it is ready.

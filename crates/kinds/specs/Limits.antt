@@ -1,4 +1,4 @@
--- The three limits of document 01, each written here once. Every definition takes its limits as arguments;
+-- The three limits of document 01 and how many numbers a cell has, each written here once. Every definition takes its limits as arguments;
 -- only the services put these numbers in.
 use Prim.Native.Nat.{ℕ}
 
@@ -9,6 +9,10 @@ tokenLimit = 64
 -- the cells of a plan
 abbrev pub cellLimit : ℕ
 cellLimit = 4096
+
+-- the numbers of the work memory that are lent for one cell
+abbrev pub cellNumbers : ℕ
+cellNumbers = 4
 
 -- the bytes of a text
 abbrev pub textLimit : ℕ

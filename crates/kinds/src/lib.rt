@@ -1,7 +1,7 @@
 // The kinds of number that must not be mixed up, each with the limit that belongs to it.
 ghost use mathlib.Core.Path.{_≡_};
 ghost use Prim.Native.Nat.{_≤_};
-ghost use Rattle.kinds.specs.Limits.{tokenLimit, cellLimit, textLimit};
+ghost use Rattle.kinds.specs.Limits.{tokenLimit, cellLimit, cellNumbers, textLimit};
 
 // The place of a byte in a text, or the place just past its last byte.
 pub struct Place(pub u32);
@@ -38,10 +38,19 @@ impl Cell {
     // The largest plan.
     pub const LIMIT: usize = 4096;
 
+    // The numbers lent for one cell.
+    pub const NUMBERS: usize = 4;
+
     pub fn limit() -> usize
         ensures { λ r. ⌜ r ≡ cellLimit ⌝ }
     {
         Self::LIMIT
+    }
+
+    pub fn numbers() -> usize
+        ensures { λ r. ⌜ r ≡ cellNumbers ⌝ }
+    {
+        Self::NUMBERS
     }
 
     pub fn new(number: usize) -> Cell

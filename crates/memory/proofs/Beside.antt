@@ -7,30 +7,21 @@ use mathlib.Core.List.{List, [], _∷_, _++_}
 use native.Mathlib.Omega.{arith}
 use lib.ListN.{getD, set}
 use lib.Seq.{getD-set-other}
+use Rattle.kinds.specs.Limits.{cellNumbers}
 use Rattle.plan.specs.Plan.{Plan, end, operator, token, block, labels}
 use Rattle.plan.specs.Reading.{Around}
-use Rattle.plan.proofs.Reached.{seen}
-use Rattle.memory.specs.Memory.{
-  start,
-  close,
-  link,
-  token-kind,
-  block-kind,
-  Linked,
-  TokenAt,
-  Says,
-  Absent,
-  Building,
-}
+use Rattle.plan.specs.Pieces.{seen}
+use Rattle.pieces.specs.Written.{TokenAt}
+use Rattle.memory.specs.Memory.{start, close, link, token-kind, block-kind, Linked, Says, Absent, Building}
 use Rattle.memory.proofs.Building.{all-distinct, free-apart, tail-built}
 use Rattle.memory.proofs.Lists.{absent-split, not-before}
 
 abbrev pub Kept : (n root : ℕ) → (others w v : List ℕ) → Type 0
-Kept n root others w v = (i : ℕ) → ¬ Absent (i / 4) (n ∷ others) → i ≢ 2 * start root + 1 → getD v i 0 ≡ getD w i 0
+Kept n root others w v = (i : ℕ) → ¬ Absent (i / cellNumbers) (n ∷ others) → i ≢ 2 * start root + 1 → getD v i 0 ≡ getD w i 0
 
 module _ {text : List ℕ} {n : ℕ} {w : List ℕ} {root : ℕ} {others : List ℕ} {tail opened free : ℕ} {out : Around} {here : Plan ℕ}
     (b : Building text n w root others tail opened free out here) where
-  not-tail : (i : ℕ) → ¬ Absent (i / 4) (n ∷ others) → i ≢ 2 * start root + 1 → i ≢ 2 * tail + 1
+  not-tail : (i : ℕ) → ¬ Absent (i / cellNumbers) (n ∷ others) → i ≢ 2 * start root + 1 → i ≢ 2 * tail + 1
   not-tail i m o e =
       let built = tail-built b (λ z. o (omega arith)) in
       let behind : ¬ Absent (tail / 2) (seen out here ++ b .shared .spare) = λ h. built (absent-split (tail / 2) (seen out here) (b .shared .spare) h .0) in
@@ -42,7 +33,7 @@ module _ {text : List ℕ} {n : ℕ} {w : List ℕ} {root : ℕ} {others : List 
   link-kept v a i m o = getD-set-other v (2 * tail + 1) i a 0 (not-tail i m o)
 
   module _ (h : free < n) where
-    free-kept : (v : List ℕ) (j a : ℕ) → j / 4 ≡ free → Kept n root others v (set v j a)
+    free-kept : (v : List ℕ) (j a : ℕ) → j / cellNumbers ≡ free → Kept n root others v (set v j a)
     free-kept v j a cell i m o =
         getD-set-other v j i a 0 (λ e. m (subst (λ c. Absent c (n ∷ others)) (omega arith) (free-apart b h .0)))
 
@@ -68,10 +59,10 @@ module _ {text : List ℕ} {n : ℕ} {w : List ℕ} {root : ℕ} {others : List 
 -- two memories that have the same numbers in the cells of a plan say it alike
 
 abbrev pub Agree : (cs w v : List ℕ) → Type 0
-Agree cs w v = (i : ℕ) → ¬ Absent (i / 4) cs → getD v i 0 ≡ getD w i 0
+Agree cs w v = (i : ℕ) → ¬ Absent (i / cellNumbers) cs → getD v i 0 ≡ getD w i 0
 
 -- the four numbers of a cell
-numbers-agree : (c : ℕ) (cs w v : List ℕ) → Agree (c ∷ cs) w v → (i : ℕ) → i / 4 ≡ c → getD v i 0 ≡ getD w i 0
+numbers-agree : (c : ℕ) (cs w v : List ℕ) → Agree (c ∷ cs) w v → (i : ℕ) → i / cellNumbers ≡ c → getD v i 0 ≡ getD w i 0
 numbers-agree c cs w v h i e = h i (λ k. k .0 e)
 
 fewer : (c : ℕ) (cs w v : List ℕ) → Agree (c ∷ cs) w v → Agree cs w v
@@ -91,8 +82,8 @@ says-agree text w v (token c t p) h k = (
 says-agree text w v (block c b p) h k =
     let r = fewer c (labels b ++ labels p) w v h in (
       numbers-agree c (labels b ++ labels p) w v h (2 * start c) (omega arith) ∙ k .0,
-      says-agree text w v b (λ i m. r i (λ z. m (absent-split (i / 4) (labels b) (labels p) z .0))) (k .1),
-      says-agree text w v p (λ i m. r i (λ z. m (absent-split (i / 4) (labels b) (labels p) z .1))) (k .2),
+      says-agree text w v b (λ i m. r i (λ z. m (absent-split (i / cellNumbers) (labels b) (labels p) z .0))) (k .1),
+      says-agree text w v p (λ i m. r i (λ z. m (absent-split (i / cellNumbers) (labels b) (labels p) z .1))) (k .2),
     )
 
 -- where the links of all ports but the last are the same, so is the chain

@@ -8,36 +8,15 @@ use native.Mathlib.Omega.{arith}
 use native.Mathlib.Decide.{decLt}
 use lib.ListN.{length, set, length-set}
 use lib.Seq.{getD-set-same, getD-set-other}
+use Rattle.kinds.specs.Limits.{cellNumbers}
 use Rattle.plan.specs.Plan.{Plan, end, operator, token, block, _then_, labels}
+use Rattle.plan.specs.Numbered.{operator-number}
 use Rattle.plan.specs.declared.Operator.{Operator}
 use Rattle.plan.specs.Reading.{Around, outermost, inside}
-use Rattle.plan.proofs.Reached.{seen, seen-then}
-use Rattle.memory.specs.Memory.{
-  start,
-  close,
-  datum,
-  link,
-  operator-kind,
-  token-kind,
-  block-kind,
-  ports,
-  Linked,
-  TokenAt,
-  Says,
-  Free,
-  Below,
-  Absent,
-  Distinct,
-  Shared,
-  Holds,
-  HoldsIn,
-  innermost,
-  KeepsOuter,
-  ports-so-far,
-  SaysSoFar,
-  last-of,
-  Building,
-}
+use Rattle.plan.specs.Pieces.{seen}
+use Rattle.plan.proofs.Pieces.{seen-then}
+use Rattle.pieces.specs.Written.{TokenAt}
+use Rattle.memory.specs.Memory.{start, close, datum, link, token-kind, block-kind, ports, Linked, Says, Free, Below, Absent, Distinct, Shared, Holds, HoldsIn, innermost, KeepsOuter, ports-so-far, SaysSoFar, last-of, Building}
 use Rattle.memory.proofs.Lists.{
   absent-join,
   absent-split,
@@ -99,7 +78,7 @@ unfolding from
 from-length i zero = refl
 from-length i (suc k) = ap suc (from-length (suc i) k)
 
-pub begin : (text : List ℕ) (n : ℕ) (w : List ℕ) → length w ≡ 4 * n + 2 → ((i : ℕ) → i < n → link w (start i) ≡ i + 1)
+pub begin : (text : List ℕ) (n : ℕ) (w : List ℕ) → length w ≡ cellNumbers * n + 2 → ((i : ℕ) → i < n → link w (start i) ≡ i + 1)
     → Building text n w n [] (start n) n 0 outermost end
 unfolding ports-so-far ports seen labels
 begin text n w room h =
@@ -260,9 +239,9 @@ module _ {text : List ℕ} {n : ℕ} {w : List ℕ} {root : ℕ} {others : List 
       }
 
   -- what is written in the first free cell, beside the link of its start, changes nothing
-  write-free : free < n → (i a : ℕ) → i / 4 ≡ free → i ≢ 2 * start free + 1 → Building text n (set w i a) root others tail opened free out here
+  write-free : free < n → (i a : ℕ) → i / cellNumbers ≡ free → i ≢ 2 * start free + 1 → Building text n (set w i a) root others tail opened free out here
   write-free h i a cell beside =
-      let unused : Absent (i / 4) (seen out here) = subst (λ c. Absent c (seen out here)) (sym cell) (free-apart b h .1) in
+      let unused : Absent (i / cellNumbers) (seen out here) = subst (λ c. Absent c (seen out here)) (sym cell) (free-apart b h .1) in
       let other = root-elsewhere b h in
       record {
         rooted = b .rooted;
@@ -329,17 +308,17 @@ block-written w c outer h =
 module _ {text : List ℕ} {n : ℕ} {w : List ℕ} {root : ℕ} {others : List ℕ} {tail opened free : ℕ} {out : Around} {here : Plan ℕ}
     (b : Building text n w root others tail opened free out here) (h : free < n) where
   pub put-operator : (o : Operator)
-      → Building text n (set (set w (2 * start free) (operator-kind o)) (2 * tail + 1) (start free))
+      → Building text n (set (set w (2 * start free) (operator-number o)) (2 * tail + 1) (start free))
       root others (start free) opened (link w (start free)) out (here then operator free o end)
   unfolding ports labels
   put-operator o =
-      let w₁ = set w (2 * start free) (operator-kind o) in
+      let w₁ = set w (2 * start free) (operator-number o) in
       let room = b .shared .room in
-      let b₁ = write-free b h (2 * start free) (operator-kind o) (omega arith) (omega arith) in
-      let kind = getD-set-same w (2 * start free) (operator-kind o) 0 (omega arith) in
+      let b₁ = write-free b h (2 * start free) (operator-number o) (omega arith) (omega arith) in
+      let kind = getD-set-same w (2 * start free) (operator-number o) 0 (omega arith) in
       new-cell b₁ h opened out (here then operator free o end) (link w (start free))
       (so-far-then out here (operator free o end)) (seen-then out here (operator free o end)) (b .at-open)
-      (getD-set-other w (2 * start free) (2 * start free + 1) (operator-kind o) 0 (omega arith))
+      (getD-set-other w (2 * start free) (2 * start free + 1) (operator-number o) 0 (omega arith))
       (so-far-says-then text w₁ out here (operator free o end) (b₁ .says) (kind, tt)) (λ k. k)
 
   pub put-token : (at len : ℕ) (t : List ℕ) → TokenAt text at len t

@@ -2,10 +2,11 @@ pub mod Beginning
 pub mod Beside
 pub mod Building
 pub mod Clearing
-pub mod Copying
 pub mod Freeing
 pub mod Lists
+pub mod Numbered
 pub mod Pieces
+pub mod Placing
 pub mod Ports
 pub mod Printing
 pub mod Putting

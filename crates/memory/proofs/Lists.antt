@@ -1,6 +1,6 @@
 -- Laws of the lists that a plan in memory is told by: a number that is absent from a list, lists without a number twice,
 -- chains of ports, and the last of a chain; each over `_++_`, and what a store leaves as it is. `¬ Absent c cs` is what says
--- that c is in cs. Number i of the memory belongs to cell i / 4, and port p to cell p / 2.
+-- that c is in cs. A cell has `cellNumbers` numbers of the memory and two ports.
 use Prim.Native.Nat.{ℕ, _+_, _*_, _≤_, _<_}
 use mathlib.Core.Path.{_≡_, refl, sym, _∙_, subst}
 use mathlib.Core.Logic.{_≢_}

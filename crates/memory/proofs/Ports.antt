@@ -8,35 +8,16 @@ use mathlib.Core.List.{List, _∷_, _++_, append-assoc}
 use native.Mathlib.Omega.{arith}
 use lib.ListN.{set}
 use lib.Seq.{getD-set-other}
+use Rattle.kinds.specs.Limits.{cellNumbers}
 use Rattle.plan.specs.Plan.{Plan, end, operator, token, block, _then_, labels}
+use Rattle.plan.specs.Numbered.{operator-number}
 use Rattle.plan.specs.declared.Operator.{Operator}
 use Rattle.plan.specs.declared.Operator.the-variants.{A as op-a, B as op-b, C as op-c, D as op-d}
 use Rattle.plan.specs.Reading.{Around, outermost, inside}
-use Rattle.plan.proofs.Reached.{seen}
-use Rattle.memory.specs.Memory.{
-  start,
-  close,
-  datum,
-  operator-kind,
-  block-kind,
-  ports,
-  TokenAt,
-  Says,
-  Absent,
-  Distinct,
-  KeepsOuter,
-  ports-so-far,
-  SaysSoFar,
-  last-of,
-}
-use Rattle.memory.proofs.Lists.{
-  absent-join,
-  absent-split,
-  distinct-join,
-  distinct-split,
-  not-behind,
-  last-append,
-}
+use Rattle.plan.specs.Pieces.{seen}
+use Rattle.pieces.specs.Written.{TokenAt}
+use Rattle.memory.specs.Memory.{start, close, datum, block-kind, ports, Says, Absent, Distinct, KeepsOuter, ports-so-far, SaysSoFar, last-of, Below}
+use Rattle.memory.proofs.Lists.{absent-join, absent-split, distinct-join, distinct-split, not-behind, last-append, below-join, below-split}
 
 -- one sequence, then another
 
@@ -115,7 +96,7 @@ so-far-distinct (inside c before out) here d =
 
 -- a store in another cell
 
-pub says-beside : (text w : List ℕ) (t : Plan ℕ) (i a : ℕ) → Absent (i / 4) (labels t) → Says text w t → Says text (set w i a) t
+pub says-beside : (text w : List ℕ) (t : Plan ℕ) (i a : ℕ) → Absent (i / cellNumbers) (labels t) → Says text w t → Says text (set w i a) t
 unfolding labels
 says-beside text w end i a h k = tt
 says-beside text w (operator c o p) i a h k =
@@ -127,26 +108,26 @@ says-beside text w (token c t p) i a h k = (
   says-beside text w p i a (h .1) (k .2),
 )
 says-beside text w (block c b p) i a h k =
-    let r = absent-split (i / 4) (labels b) (labels p) (h .1) in
+    let r = absent-split (i / cellNumbers) (labels b) (labels p) (h .1) in
     (getD-set-other w i (2 * start c) a 0 (omega arith) ∙ k .0, says-beside text w b i a (r .0) (k .1), says-beside text w p i a (r .1) (k .2))
 
-pub so-far-says-beside : (text w : List ℕ) (out : Around) (here : Plan ℕ) (i a : ℕ) → Absent (i / 4) (seen out here)
+pub so-far-says-beside : (text w : List ℕ) (out : Around) (here : Plan ℕ) (i a : ℕ) → Absent (i / cellNumbers) (seen out here)
     → SaysSoFar text w out here → SaysSoFar text (set w i a) out here
 unfolding seen
 so-far-says-beside text w outermost here i a h k = says-beside text w here i a h k
 so-far-says-beside text w (inside c before out) here i a h k =
-    let r = absent-split (i / 4) (seen out before) (c ∷ labels here) h in (
+    let r = absent-split (i / cellNumbers) (seen out before) (c ∷ labels here) h in (
       so-far-says-beside text w out before i a (r .0) (k .0),
       getD-set-other w i (2 * start c) a 0 (omega arith) ∙ k .1,
       says-beside text w here i a (r .1 .1) (k .2),
     )
 
-pub keeps-beside : (n : ℕ) (w : List ℕ) (out : Around) (here : Plan ℕ) (i a : ℕ) → Absent (i / 4) (seen out here)
+pub keeps-beside : (n : ℕ) (w : List ℕ) (out : Around) (here : Plan ℕ) (i a : ℕ) → Absent (i / cellNumbers) (seen out here)
     → KeepsOuter n w out → KeepsOuter n (set w i a) out
 unfolding seen
 keeps-beside n w outermost here i a h k = tt
 keeps-beside n w (inside c before out) here i a h k =
-    let r = absent-split (i / 4) (seen out before) (c ∷ labels here) h in
+    let r = absent-split (i / cellNumbers) (seen out before) (c ∷ labels here) h in
     (getD-set-other w i (2 * close c + 1) a 0 (omega arith) ∙ k .0, keeps-beside n w out before i a (r .0) (k .1))
 
 -- A store at a link: a port is loose if its link says nothing of its own cell, so if it is a start or a block's close. A
@@ -204,8 +185,17 @@ keeps-link n w (inside c before out) here p a h k =
     )
 
 -- an operator's kind is neither a token's nor a block's
-pub kind-low : (o : Operator) → operator-kind o < 4
+pub kind-low : (o : Operator) → operator-number o < 4
 kind-low op-a = omega arith
 kind-low op-b = omega arith
 kind-low op-c = omega arith
 kind-low op-d = omega arith
+
+pub below-ports : (n : ℕ) (t : Plan ℕ) → Below n (labels t) → Below (start n) (ports t)
+unfolding ports labels
+below-ports n end h = tt
+below-ports n (operator c o p) h = (omega arith, below-ports n p (h .1))
+below-ports n (token c t p) h = (omega arith, below-ports n p (h .1))
+below-ports n (block c b p) h =
+    let r = below-split n (labels b) (labels p) (h .1) in
+    (omega arith, below-join (start n) (ports b) (close c ∷ ports p) (below-ports n b (r .0)) (omega arith, below-ports n p (r .1)))

@@ -5,6 +5,7 @@ use mathlib.Core.Path.{_≡_, refl, ap, sym, _∙_, subst}
 use mathlib.Core.List.{List, [], _∷_, _++_, append-assoc}
 use native.Mathlib.Omega.{arith}
 use lib.ListN.{length, set, length-append, length-set}
+use Rattle.kinds.specs.Limits.{cellNumbers}
 use Rattle.memory.specs.Memory.{start, link, Free, Below, Absent, Distinct, Shared}
 use Rattle.memory.proofs.Lists.{below-split, below-absent, distinct-split, not-before, not-behind, free-beside}
 
@@ -43,14 +44,14 @@ module _ {n : ℕ} {w : List ℕ} {free : ℕ} {used : List ℕ} (s : Shared n w
         room = length-set w i a ∙ s .room;
       }
 
-  pub shared-used : (i a : ℕ) → ¬ Absent (i / 4) (n ∷ used) → Shared n (set w i a) free used
+  pub shared-used : (i a : ℕ) → ¬ Absent (i / cellNumbers) (n ∷ used) → Shared n (set w i a) free used
   shared-used i a m =
-      shared-beside i a (λ c e. subst (λ z. Absent z (s .spare)) (omega arith) (not-behind (i / 4) (n ∷ used) (s .spare) shared-distinct m))
+      shared-beside i a (λ c e. subst (λ z. Absent z (s .spare)) (omega arith) (not-behind (i / cellNumbers) (n ∷ used) (s .spare) shared-distinct m))
 
 -- the first free cell comes into use
 
 take-first : (n : ℕ) (w : List ℕ) (free : ℕ) (used cs : List ℕ) → Free w free cs n → Below n (used ++ cs) → Distinct (used ++ cs)
-    → length (used ++ cs) ≡ n → length w ≡ 4 * n + 2 → free < n → Shared n w (link w (start free)) (used ++ free ∷ [])
+    → length (used ++ cs) ≡ n → length w ≡ cellNumbers * n + 2 → free < n → Shared n w (link w (start free)) (used ++ free ∷ [])
 take-first n w free used [] f b d l r h = absurd (omega arith)
 take-first n w free used (c ∷ cs) f b d l r h =
     let moved : used ++ c ∷ cs ≡ (used ++ free ∷ []) ++ cs = ap (λ z. used ++ z ∷ cs) (sym (f .0)) ∙ sym (append-assoc used (free ∷ []) cs) in

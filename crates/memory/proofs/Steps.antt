@@ -5,7 +5,7 @@ use mathlib.Core.List.{List, _∷_, _++_}
 use native.Mathlib.Omega.{arith}
 use Rattle.plan.specs.Plan.{Plan, labels}
 use Rattle.plan.specs.Reading.{Around, outermost, inside}
-use Rattle.plan.proofs.Reached.{seen}
+use Rattle.plan.specs.Pieces.{seen}
 use Rattle.memory.specs.Memory.{Building}
 use Rattle.memory.specs.Model.{Lent, Ready, Model, Built, Stepped, model}
 use Rattle.memory.specs.declared.Build.{Build}

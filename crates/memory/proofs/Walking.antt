@@ -1,7 +1,7 @@
 -- A walk along the chain of a plan in the memory, port by port up to the end mark, on plain values. The ports ahead are a
 -- function of the port where the walk stands, with as many steps as all cells have ports: so the walk needs no plan to tell
 -- where it is, and it ends. Every plan that the memory holds has these ports, so all of them have one printed text.
-use Prim.Native.Nat.{ℕ, zero, suc, _+_, _*_, _/_, _%_, _≤_, _<_}
+use Prim.Native.Nat.{ℕ, zero, suc, _+_, _*_, _/_, _≤_, _<_}
 use mathlib.Core.Path.{_≡_, refl, ap, sym, _∙_, subst}
 use mathlib.Core.Bool.{cond}
 use mathlib.Core.Logic.{_≢_}
@@ -11,33 +11,22 @@ use borrow.Author.Tests.{eq-eqb, ne-eqb}
 use lib.Dec.{eqb}
 use lib.ListN.{length, drop, length-append, length-drop}
 use lib.Seq.{drop-at, drop-drop}
-use Rattle.plan.specs.Plan.{Plan, end, operator, token, block, labels, print}
-use Rattle.plan.specs.declared.Operator.{Operator}
-use Rattle.plan.specs.declared.Operator.the-variants.{A as op-a, B as op-b, C as op-c, D as op-d}
+use Rattle.kinds.specs.Limits.{cellNumbers}
+use Rattle.plan.specs.Plan.{Plan, labels, print}
+use Rattle.plan.specs.Pieces.{Piece as PlanPiece, pieces}
 use Rattle.plan.proofs.Plans.{length-labels}
 use Rattle.memory.specs.Held.{HeldIn}
-use Rattle.memory.specs.Memory.{
-  start,
-  close,
-  datum,
-  link,
-  whole,
-  operator-kind,
-  token-kind,
-  block-kind,
-  ports,
-  Linked,
-  TokenAt,
-  Says,
-  Below,
-}
+use Rattle.pieces.specs.Written.{InText, piece-bytes, piece-length}
+use Rattle.pieces.specs.declared.Piece.{Piece}
+use Rattle.pieces.proofs.Pieces.{is-in-text, length-piece}
+use Rattle.memory.specs.Memory.{start, close, link, whole, ports, Linked, Below}
 use Rattle.memory.specs.Model.{Lent}
-use Rattle.memory.specs.Pieces.{piece-at, piece-bytes, piece-length, InText, PrintsWithin}
+use Rattle.memory.specs.Pieces.{piece-at, Shown, PrintsWithin}
 use Rattle.memory.specs.declared.Held.{Held}
-use Rattle.memory.specs.declared.print.Piece.{Piece}
 use Rattle.memory.proofs.Lists.{below-split}
-use Rattle.memory.proofs.Pieces.{piece-whole, length-piece}
-use Rattle.memory.proofs.Printing.{printed-ports, print-ports, length-ports, port-bytes}
+use Rattle.memory.proofs.Pieces.{piece-whole}
+use Rattle.memory.proofs.Ports.{below-ports}
+use Rattle.memory.proofs.Printing.{chain-shows, printed-ports, print-ports, length-ports}
 use Rattle.memory.proofs.Whole.{first-whole}
 
 -- the ports from one on up to a stop, in so many steps
@@ -60,56 +49,12 @@ along-chain text w n (suc k) port (x ∷ ps) h l =
 
 -- the ports of a plan that the memory holds are such a chain
 
-abbrev Fine : (text w : List ℕ) → (n : ℕ) → List ℕ → Type 0
-Fine text w n [] = Unit {0}
-Fine text w n (x ∷ ps) = (x < start n) × InText text (piece-at w x) × Fine text w n ps
-
 module _ (text w : List ℕ) (n : ℕ) where
-  fine-join : (ps qs : List ℕ) → Fine text w n ps → Fine text w n qs → Fine text w n (ps ++ qs)
-  fine-join [] qs h k = k
-  fine-join (p ∷ ps) qs h k = (h .0, h .1, fine-join ps qs (h .2) k)
-
-  module _ (c : ℕ) where
-    even : start c % 2 ≡ 0
-    even = omega arith
-
-    odd : close c % 2 ≡ 1
-    odd = omega arith
-
-    close-in-text : InText text (piece-at w (close c))
-    unfolding piece-at
-    close-in-text = rw odd tt
-
-    operator-in-text : (o : Operator) → datum w (start c) ≡ operator-kind o → InText text (piece-at w (start c))
-    unfolding piece-at
-    operator-in-text op-a h = rw (even, h) tt
-    operator-in-text op-b h = rw (even, h) tt
-    operator-in-text op-c h = rw (even, h) tt
-    operator-in-text op-d h = rw (even, h) tt
-
-    token-in-text : (t : List ℕ) → datum w (start c) ≡ token-kind → TokenAt text (datum w (close c)) (link w (close c)) t → InText text (piece-at w (start c))
-    unfolding piece-at
-    token-in-text t h k = rw (even, h) (k .0)
-
-    block-in-text : datum w (start c) ≡ block-kind → InText text (piece-at w (start c))
-    unfolding piece-at
-    block-in-text h = rw (even, h) tt
-
-  fine-ports : (t : Plan ℕ) → Says text w t → Below n (labels t) → Fine text w n (ports t)
-  unfolding ports labels
-  fine-ports end h l = tt
-  fine-ports (operator c o p) h l = (omega arith, operator-in-text c o (h .0), fine-ports p (h .1) (l .1))
-  fine-ports (token c t p) h l = (omega arith, token-in-text c t (h .0) (h .1), fine-ports p (h .2) (l .1))
-  fine-ports (block c b p) h l =
-      let r = below-split n (labels b) (labels p) (l .1) in (
-        omega arith,
-        block-in-text c (h .0),
-        fine-join (ports b) (close c ∷ ports p) (fine-ports b (h .1) (r .0)) (omega arith, close-in-text c, fine-ports p (h .2) (r .1)),
-      )
-
-  linked-chain : (x : ℕ) (ps : List ℕ) → Linked w (x ∷ (ps ++ close n ∷ [])) → Fine text w n ps → Chain text w n (link w x) ps
-  linked-chain x [] h f = h .0
-  linked-chain x (y ∷ ps) h f = (h .0, f .0, f .1, linked-chain y ps (h .1) (f .2))
+  linked-chain : (x : ℕ) (qs : List ℕ) (ps : List (PlanPiece ℕ)) → Linked w (x ∷ (qs ++ close n ∷ [])) → Below (start n) qs → Shown text w qs ps
+      → Chain text w n (link w x) qs
+  linked-chain x [] ps h b f = h .0
+  linked-chain x (y ∷ qs) [] h b f = absurd f
+  linked-chain x (y ∷ qs) (z ∷ ps) h b f = (h .0, b .0, is-in-text (f .0), linked-chain y qs ps (h .1) (b .1) (f .1))
 
 -- the ports ahead of a port, and what they print
 
@@ -129,8 +74,8 @@ module _ (text m : List ℕ) (h : Held) (lent : Lent (h .outer .0) m) (t : Plan 
   held-chain : Chain text (whole n m first) n first (ports t)
   held-chain =
       subst (λ p. Chain text (whole n m first) n p (ports t)) (sym (first-whole n m first lent (start n) refl))
-      (linked-chain text (whole n m first) n (start n) (ports t) (held .chain)
-      (fine-ports text (whole n m first) n t (held .says) (below-split n (labels t) (held .shared .spare) (held .shared .below) .0)))
+      (linked-chain text (whole n m first) n (start n) (ports t) (pieces t) (held .chain)
+      (below-ports n t (below-split n (labels t) (held .shared .spare) (held .shared .below) .0)) (chain-shows text (whole n m first) t (held .says)))
 
   held-few : length (ports t) ≤ 2 * n
   held-few = omega (arith, length-ports t, length-labels t, length-append (labels t) (held .shared .spare), held .shared .all)
@@ -143,16 +88,16 @@ module _ (text m : List ℕ) (h : Held) (lent : Lent (h .outer .0) m) (t : Plan 
 
 -- where the walk stands
 
-pub record Walk (room : ℕ) (text m : List ℕ) (n first port put : ℕ) : Type 0 where
+pub record Walk (from room : ℕ) (text m : List ℕ) (n first port put : ℕ) : Type 0 where
   pub lent : Lent n m
   pub chain : Chain text (whole n m first) n port (ahead m n first port)
   pub few : length (ahead m n first port) ≤ 2 * n
-  pub fits : length (printed-ahead text m n first first) ≤ room
+  pub fits : from + length (printed-ahead text m n first first) ≤ room
   pub within : put ≤ length (printed-ahead text m n first first)
   pub so-far : printed-ahead text m n first port ≡ drop put (printed-ahead text m n first first)
 
-pub walk-first : (room : ℕ) (text m : List ℕ) (h : Held) → PrintsWithin room text m h → Walk room text m (h .outer .0) (h .first .0) (h .first .0) 0
-walk-first room text m h p =
+pub walk-first : (from room : ℕ) (text m : List ℕ) (h : Held) → PrintsWithin from room text m h → Walk from room text m (h .outer .0) (h .first .0) (h .first .0) 0
+walk-first from room text m h p =
     let e = held-ahead text m h (p .lent) (p .plan) (p .held) in
     record {
       lent = p .lent;
@@ -182,7 +127,7 @@ turn text m n first port (x ∷ ps) e l h more =
       chain = rw next (h .3);
     }
 
-module _ (room : ℕ) (text m : List ℕ) (n first port put : ℕ) (walk : Walk room text m n first port put) where
+module _ (from room : ℕ) (text m : List ℕ) (n first port put : ℕ) (walk : Walk from room text m n first port put) where
   abbrev w : List ℕ
   w = whole n m first
 
@@ -205,7 +150,7 @@ module _ (room : ℕ) (text m : List ℕ) (n first port put : ℕ) (walk : Walk 
     here = turn text m n first port (ahead m n first port) refl (walk .few) (walk .chain) (λ e. more (e ∙ sym mark))
 
     -- the port is one of a lent cell
-    pub walk-lent : 4 * (port / 2) + 4 ≤ length m
+    pub walk-lent : cellNumbers * (port / 2) + cellNumbers ≤ length m
     walk-lent = omega (arith, here .below, walk .lent .room)
 
     pub walk-below : port ≤ start n
@@ -228,7 +173,7 @@ module _ (room : ℕ) (text m : List ℕ) (n first port put : ℕ) (walk : Walk 
 
       -- what is still to come begins with the piece
       pub to-come : drop put printed ≡ piece-bytes text piece ++ rest
-      unfolding printed-ports port-bytes
+      unfolding printed-ports
       to-come =
           sym (walk .so-far) ∙ ap (printed-ports text w) (here .on)
           ∙ ap (_++ rest) (ap (piece-bytes text) (sym same))
@@ -237,10 +182,10 @@ module _ (room : ℕ) (text m : List ℕ) (n first port put : ℕ) (walk : Walk 
       put-within =
           omega (arith, walk .within, size, length-drop put printed, length-append (piece-bytes text piece) rest, ap length to-come)
 
-      pub walk-fits : put + piece-length piece ≤ room
+      pub walk-fits : from + put + piece-length piece ≤ room
       walk-fits = omega (arith, put-within, walk .fits)
 
-      pub walk-on : (len : ℕ) → len ≡ piece-length piece → (next : ℕ) → next ≡ link w port → Walk room text m n first next (put + len)
+      pub walk-on : (len : ℕ) → len ≡ piece-length piece → (next : ℕ) → next ≡ link w port → Walk from room text m n first next (put + len)
       walk-on len el next e = rw (e, el) record {
         lent = walk .lent;
         chain = here .chain;
@@ -253,7 +198,7 @@ module _ (room : ℕ) (text m : List ℕ) (n first port put : ℕ) (walk : Walk 
       }
 
 -- at the end mark the walk has put the whole printed text, of every plan that the memory holds
-pub walk-end : (room : ℕ) (text m : List ℕ) (h : Held) (port put : ℕ) → Walk room text m (h .outer .0) (h .first .0) port put
+pub walk-end : (from room : ℕ) (text m : List ℕ) (h : Held) (port put : ℕ) → Walk from room text m (h .outer .0) (h .first .0) port put
     → (stop : ℕ) → stop ≡ close (h .outer .0) → port ≡ stop → (t : Plan ℕ) → HeldIn text m h t → put ≡ length (print t)
-walk-end room text m h port put walk stop mark e t held =
-    ended room text m (h .outer .0) (h .first .0) port put walk (e ∙ mark) ∙ ap length (held-prints text m h (walk .lent) t held)
+walk-end from room text m h port put walk stop mark e t held =
+    ended from room text m (h .outer .0) (h .first .0) port put walk (e ∙ mark) ∙ ap length (held-prints text m h (walk .lent) t held)

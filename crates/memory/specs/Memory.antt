@@ -3,16 +3,18 @@
 -- next in the printed text: so a whole plan is one chain of ports, and the last item of a block links to that block's own `]`.
 -- The outermost sequence is the inside of a cell that is not lent, number n: its start links to the first port, and its
 -- close is the end mark.
-use Prim.Native.Nat.{ℕ, _+_, _*_, _≤_, _<_}
+use Prim.Native.Nat.{ℕ, _+_, _*_, _<_}
 use mathlib.Core.Path.{_≡_}
 use mathlib.Core.Logic.{_≢_, _⊎_}
 use mathlib.Core.List.{List, [], _∷_, _++_}
-use lib.ListN.{length, getD, take, drop}
-use Rattle.plan.specs.Plan.{Plan, end, operator, token, block, labels, open-brace, close-brace}
-use Rattle.plan.specs.declared.Operator.{Operator}
-use Rattle.plan.specs.declared.Operator.the-variants.{A as op-a, B as op-b, C as op-c, D as op-d}
-use Rattle.plan.specs.Reading.{Around, outermost, inside}
-use Rattle.plan.proofs.Reached.{seen}
+use lib.ListN.{length, getD, take}
+use Rattle.kinds.specs.Limits.{cellNumbers}
+use Rattle.kinds.specs.declared.Token.{Token}
+use Rattle.plan.specs.Plan.{Plan, end, operator, token, block, labels}
+use Rattle.plan.specs.Numbered.{operator-number}
+use Rattle.plan.specs.Reading.{Around, outermost, inside, place}
+use Rattle.plan.specs.Pieces.{seen}
+use Rattle.pieces.specs.Written.{TokenAt}
 
 -- the ports of a cell
 abbrev pub start : ℕ → ℕ
@@ -28,13 +30,7 @@ datum w p = getD w (2 * p) 0
 abbrev pub link : List ℕ → ℕ → ℕ
 link w p = getD w (2 * p + 1) 0
 
--- what the datum of a start says: which operator, a token, a block
-abbrev pub operator-kind : Operator → ℕ
-operator-kind op-a = 0
-operator-kind op-b = 1
-operator-kind op-c = 2
-operator-kind op-d = 3
-
+-- what the datum of a start says: an operator by its number, a token, a block
 abbrev pub token-kind : ℕ
 token-kind = 4
 
@@ -43,7 +39,7 @@ block-kind = 5
 
 -- the lent numbers of n cells and, behind them, the start of cell number n, whose link is kept beside the memory
 abbrev pub whole : (n : ℕ) → List ℕ → (first : ℕ) → List ℕ
-whole n m first = take (4 * n) m ++ block-kind ∷ first ∷ []
+whole n m first = take (cellNumbers * n) m ++ block-kind ∷ first ∷ []
 
 -- the ports of a plan labelled with its cells, in printed order
 unfoldable pub ports : Plan ℕ → List ℕ
@@ -58,14 +54,14 @@ Linked w [] = Unit {0}
 Linked w (x ∷ []) = Unit {0}
 Linked w (x ∷ y ∷ r) = (link w x ≡ y) × Linked w (y ∷ r)
 
--- the bytes of a token in the text, both braces among them, from a place on
-abbrev pub TokenAt : (text : List ℕ) → (at len : ℕ) → List ℕ → Type 0
-TokenAt text at len t = (at + len ≤ length text) × (take len (drop at text) ≡ open-brace ∷ (t ++ close-brace ∷ []))
+-- the token that the numbers of a cell say, by the cell's start
+abbrev pub token-at : List ℕ → (port : ℕ) → Token
+token-at w port = record { at = place (datum w (port + 1)); len = link w (port + 1) }
 
 -- each cell's numbers say its item; a token's second pair is its place and its length in the text
 abbrev pub Says : (text w : List ℕ) → Plan ℕ → Type 0
 Says text w end = Unit {0}
-Says text w (operator c o p) = (datum w (start c) ≡ operator-kind o) × Says text w p
+Says text w (operator c o p) = (datum w (start c) ≡ operator-number o) × Says text w p
 Says text w (token c t p) =
     (datum w (start c) ≡ token-kind) × TokenAt text (datum w (close c)) (link w (close c)) t × Says text w p
 Says text w (block c b p) = (datum w (start c) ≡ block-kind) × Says text w b × Says text w p
@@ -94,7 +90,7 @@ pub record Shared (n : ℕ) (w : List ℕ) (free : ℕ) (used : List ℕ) : Type
   pub below : Below n (used ++ spare)
   pub distinct : Distinct (used ++ spare)
   pub all : length (used ++ spare) ≡ n
-  pub room : length w ≡ 4 * n + 2
+  pub room : length w ≡ cellNumbers * n + 2
 
 -- w holds the plan t, whose labels are its cells
 pub record Holds (text : List ℕ) (n : ℕ) (w : List ℕ) (free : ℕ) (t : Plan ℕ) : Type 0 where

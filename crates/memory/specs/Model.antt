@@ -4,9 +4,12 @@ use Prim.Native.Nat.{ℕ, _+_, _*_, _≤_, _<_}
 use mathlib.Core.Path.{_≡_}
 use mathlib.Core.List.{List}
 use lib.ListN.{length, set, drop}
-use Rattle.kinds.specs.Limits.{cellLimit}
+use Rattle.kinds.specs.Limits.{cellLimit, cellNumbers}
 use Rattle.kinds.specs.declared.Cell.{Cell}
 use Rattle.plan.specs.Plan.{Plan}
+use Rattle.plan.specs.Numbered.{operator-number}
+use Rattle.pieces.specs.declared.Piece.{Piece}
+use Rattle.pieces.specs.declared.Piece.the-variants.{Operator, Token, Open, Close}
 use Rattle.plan.specs.Reading.{Around}
 use Rattle.memory.specs.Memory.{start, close, link, whole, token-kind, block-kind, Building}
 use Rattle.memory.specs.declared.Build.{Build}
@@ -14,13 +17,13 @@ use Rattle.memory.specs.declared.Held.{Held}
 
 -- n cells are lent
 pub record Lent (n : ℕ) (m : List ℕ) : Type 0 where
-  pub room : 4 * n ≤ length m
+  pub room : cellNumbers * n ≤ length m
   pub few : n ≤ cellLimit
 
 -- past the n lent cells the memory is as it was
 pub record Aside (n : ℕ) (m m′ : List ℕ) : Type 0 where
   pub as-long : length m′ ≡ length m
-  pub rest : drop (4 * n) m′ ≡ drop (4 * n) m
+  pub rest : drop (cellNumbers * n) m′ ≡ drop (cellNumbers * n) m
 
 pub record Model : Type 0 where
   pub numbers : List ℕ
@@ -105,3 +108,31 @@ pub record Finished (m : List ℕ) (b : Build) (m′ : List ℕ) (h : Held) : Ty
   pub outer : h .outer ≡ b .outer
   pub free : h .free ≡ b .free
   pub aside : Aside (b .outer .0) m m′
+
+-- a piece, by what it is
+abbrev pub with-piece : Model → Piece → Model
+with-piece s (Operator o) = with-item s (operator-number o)
+with-piece s (Token t) = with-token s (t .at .0) (t .len)
+with-piece s Open = with-block s
+with-piece s Close = with-close s
+
+-- a piece finds a free cell, or, to close, an open block
+abbrev pub Finds : (free opened n : ℕ) → Piece → Type 0
+Finds free opened n (Operator o) = free < n
+Finds free opened n (Token t) = free < n
+Finds free opened n Open = free < n
+Finds free opened n Close = opened < n
+
+pub record PieceReady (m : List ℕ) (b : Build) (k : Piece) : Type 0 where
+  pub ready : Ready m b
+  pub finds : Finds (b .free .0) (b .opened .0) (b .outer .0) k
+
+-- a block begun in the first free cell, that no port links to: what is put then is its inside
+pub record Apart (m : List ℕ) (h : Held) (m′ : List ℕ) (b : Build) : Type 0 where
+  pub outer : b .outer ≡ h .outer
+  pub first : b .first ≡ h .first
+  pub opened : b .opened ≡ h .free
+  pub tail : b .tail .0 ≡ start (h .free .0)
+  pub free : b .free .0 ≡ link (whole (h .outer .0) m (h .first .0)) (start (h .free .0))
+  pub numbers : model m′ b .numbers ≡ set (whole (h .outer .0) m (h .first .0)) (2 * start (h .free .0)) block-kind
+  pub aside : Aside (h .outer .0) m m′

@@ -10,7 +10,8 @@ use borrow.Author.Tests.{ltb-true, ltb-false, lt-ltb, le-ltb, le-leb, lt-leb}
 use Rattle.plan.specs.declared.Answer.{Answer}
 use Rattle.plan.specs.declared.Answer.the-variants.{Refused}
 use Rattle.plan.specs.declared.Refusal.{Refusal}
-use Rattle.plan.specs.declared.Refusal.the-variants.{TooLong, BadArena, OutShort}
+use Rattle.plan.specs.declared.Refusal.the-variants.{Text, BadArena, OutShort}
+use Rattle.plan.specs.declared.TextFault.the-variants.{TooLong}
 use Rattle.plan.specs.Reading.{REFUSED, read}
 use Rattle.plan.specs.Refusals.{Refuses, too-long, bad-arena, bad-text}
 use Rattle.plan.specs.Services.{GIVES, Limits, accept, write}
@@ -21,7 +22,7 @@ unfolding accept
 refused-refuses lim n text {r} e = go (ltb (lim .text) (length text)) refl (ltb (lim .cells) n) refl e
   where
     go : (s : Bool) → ltb (lim .text) (length text) ≡ s → (t : Bool) → ltb (lim .cells) n ≡ t
-        → cond s (REFUSED TooLong) (cond t (REFUSED BadArena) (read (lim .token) n text)) ≡ REFUSED r → Refuses lim n text r
+        → cond s (REFUSED (Text TooLong)) (cond t (REFUSED BadArena) (read (lim .token) n text)) ≡ REFUSED r → Refuses lim n text r
     go true u t v h = subst (Refuses lim n text) (refused-injective h) (too-long (ltb-true _ _ u))
     go false u true v h = subst (Refuses lim n text) (refused-injective h) (bad-arena (ltb-false _ _ u) (ltb-true _ _ v))
     go false u false v h = bad-text (ltb-false _ _ u) (ltb-false _ _ v) (refused-row (lim .token) n text h)

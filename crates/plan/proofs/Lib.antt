@@ -2,8 +2,10 @@ pub mod Answers
 pub mod Blanks
 pub mod Classes
 pub mod Faultless
+pub mod Frames
 pub mod Numbered
 pub mod Options
+pub mod Pieces
 pub mod Plans
 pub mod Reached
 pub mod ReadBack
@@ -14,4 +16,5 @@ pub mod Slots
 pub mod Tests
 pub mod Tokens
 pub mod Utf8
+pub mod Windows
 pub mod Worked

@@ -68,3 +68,8 @@ pub else-front : {A B : Type 0} (f : A → B) (x y : Option A) {v w : Option B} 
 unfolding under _else_
 else-front f none y s left right = let both = right s in rw (both .0) (both .1)
 else-front f (some a) y s left right = rw (left tt)
+
+pub under-rest : {A B : Type 0} (f : A → B) (x y : Option A) (z : Option B) → under f (x else y) else z ≡ under f x else (under f y else z)
+unfolding under _else_
+under-rest f none y z = refl
+under-rest f (some a) y z = refl

@@ -26,18 +26,12 @@ use Rattle.plan.specs.Plan.{
 }
 use Rattle.plan.specs.Token.{allowed, Allowed}
 use Rattle.plan.specs.Reading.{Around, outermost, inside, go-on, move, past-token, PLAN, read-from, fit, read, without-blanks}
+use Rattle.plan.specs.Pieces.{Shows, pieces, placed}
 use Rattle.plan.proofs.Classes.{class-letter, class-open, class-close, class-brace}
 use Rattle.plan.proofs.Plans.{then-end, then-assoc, cells-relabel}
 use Rattle.plan.proofs.Reached.{moved, skip-token, text-read}
 use Rattle.plan.proofs.Refusals.{plan-injective, read-faultless}
 use Rattle.plan.proofs.Tokens.{allowed-parts, token-text-at}
-
--- a plan with the places that its items have in its printed text, if that begins at the place `at`
-unfoldable pub placed : {L : Type 0} → (at : ℕ) → Plan L → Plan ℕ
-placed at end = end
-placed at (operator l o p) = operator at o (placed (at + 1) p)
-placed at (token l t p) = token at t (placed (suc at + suc (length t)) p)
-placed at (block l b p) = block at (placed (at + 1) b) (placed (at + 1 + length (print b) + 1) p)
 
 -- a printed token is read and passed over
 token-moved : (limit at : ℕ) (t : List ℕ) (out : Around) (here : Plan ℕ) → allowed limit t ≡ true → (rest : List ℕ)
@@ -109,6 +103,7 @@ pub record Accepted (limit n : ℕ) (text : List ℕ) (p : Plan ℕ) : Type 0 wh
   pub fine : Allowed limit p
   pub fits : cells p ≤ n
   pub printed : print p ≡ without-blanks false text
+  pub shows : Shows limit 0 text (pieces p)
 
 pub read-accepted : (limit n : ℕ) (text : List ℕ) {p : Plan ℕ} → read limit n text ≡ PLAN p → Accepted limit n text p
 read-accepted limit n text {p} e =
@@ -119,6 +114,7 @@ read-accepted limit n text {p} e =
       fine = subst (Allowed limit) same (r .fine);
       fits = f .1;
       printed = ap print (sym same) ∙ r .printed;
+      shows = subst (λ q. Shows limit 0 text (pieces q)) same (r .shows);
     }
 
 -- A token is no longer than its limit and every other cell prints two bytes at most.

@@ -12,7 +12,9 @@ use lib.Seq.{drop-nil, getD-at}
 use lib.Dec.{leb}
 use borrow.Author.Tests.{leb-true, leb-false, lt-leb}
 use Rattle.plan.specs.declared.Refusal.{Refusal}
-use Rattle.plan.specs.declared.Refusal.the-variants.{Unclosed, Overfull}
+use Rattle.plan.specs.declared.Refusal.the-variants.{Text, Overfull}
+use Rattle.plan.specs.declared.TextFault.{TextFault}
+use Rattle.plan.specs.declared.TextFault.the-variants.{Unclosed}
 use Rattle.plan.specs.Plan.{Plan, end, operator, token, block, _then_, cells, labels, close-brace}
 use Rattle.plan.specs.Token.{token-text}
 use Rattle.plan.specs.Reading.{
@@ -58,16 +60,18 @@ use Rattle.plan.specs.Refusals.{
 }
 use Rattle.plan.proofs.Options.{Each}
 use Rattle.plan.proofs.Plans.{length-labels}
-use Rattle.plan.proofs.Tokens.{Found, token-text-finds}
-use Rattle.plan.proofs.Reached.{depth, seen, reached, first-label, read-whole, text-read}
+use Rattle.plan.proofs.Tokens.{token-text-finds}
+use Rattle.plan.specs.Pieces.{Found, pieces, starts, so-far}
+use Rattle.plan.proofs.Pieces.{first-start, labels-pieces, starts-append}
+use Rattle.plan.proofs.Reached.{depth, reached, read-whole, text-read}
 
 -- what reading says of bytes that begin at the place `from` with d blocks open
 data Verdict (limit from d : ℕ) (bs : List ℕ) : Reading → Type 0 where
   whole : {k : ℕ} {p : Plan ℕ} → Faultless limit d bs 0 k → Verdict limit from d bs (PLAN p)
-  stopped : (before rest : List ℕ) (b : ℕ) {e k at : ℕ} {r : Refusal}
+  stopped : (before rest : List ℕ) (b : ℕ) {e k at : ℕ} {r : TextFault}
       → bs ≡ before ++ b ∷ rest → Faultless limit d before e k → Fault limit at b rest e r → at ≡ from + length before
-      → Verdict limit from d bs (REFUSED r)
-  open-end : {e k at : ℕ} → Faultless limit d bs (suc e) k → at ≡ from + length bs → Verdict limit from d bs (REFUSED (Unclosed (place at)))
+      → Verdict limit from d bs (REFUSED (Text r))
+  open-end : {e k at : ℕ} → Faultless limit d bs (suc e) k → at ≡ from + length bs → Verdict limit from d bs (REFUSED (Text (Unclosed (place at))))
 
 -- a verdict on bytes behind others in which there is no fault
 module _ {limit d d′ : ℕ} (xs : List ℕ) (longer : (us : List ℕ) (e k : ℕ) → Faultless limit d′ us e k → (m : ℕ) × Faultless limit d (xs ++ us) e m) where
@@ -137,7 +141,7 @@ whole-of (whole f) = (_, f)
 -- Item number n of a text begins at its first byte: its label is the place of that byte.
 pub item-place : (limit : ℕ) (before rest : List ℕ) (b : ℕ) {d n : ℕ} {p : Plan ℕ} → Faultless limit 0 before d n → Begins (class b)
     → read-from limit 0 0 outermost end (before ++ b ∷ rest) ≡ PLAN p → (getD (labels p) n 0 ≡ length before) × (n < cells p)
-unfolding seen labels
+unfolding so-far pieces
 item-place limit before rest b {n = n} {p = p} f g e =
     let r = reached f 0 outermost end refl in
     let at = 0 + length before in
@@ -146,13 +150,14 @@ item-place limit before rest b {n = n} {p = p} f g e =
     let w = whole-of (rw later at v) .1 in
     let r′ = reached w at (r .then-out) (r .then-here) refl in
     let read = read-whole at (r .then-out) (r .then-here) r′ in
-    let first = first-label w g at (r .then-out) (r .then-here) refl in
+    let first = first-start (r′ .shows) g in
+    let before-it = starts (r .more) in
     let plan : p ≡ read .plan = plan-injective (sym later ∙ read .reads) in
-    let listed : labels p ≡ r .more ++ (length before) ∷ first .0 =
-    ap labels plan ∙ read .labelled ∙ ap (_++ r′ .more) (r .grown) ∙ ap (r .more ++_) (first .1)
-    ∙ ap (λ n. r .more ++ n ∷ first .0) (zero-add (length before)) in (
-      ap (λ l. getD l n 0) listed ∙ getD-at (r .more) (length before) (first .0) 0 n (r .counted),
-      omega (arith, length-labels p, ap length listed, length-append (r .more) (length before ∷ first .0), r .counted),
+    let listed : labels p ≡ before-it ++ (length before) ∷ first .0 =
+    labels-pieces p ∙ ap starts (ap pieces plan ∙ read .all ∙ ap (_++ r′ .more) (r .grown)) ∙ starts-append (r .more) (r′ .more)
+    ∙ ap (before-it ++_) (first .1) ∙ ap (λ n. before-it ++ n ∷ first .0) (zero-add (length before)) in (
+      ap (λ l. getD l n 0) listed ∙ getD-at before-it (length before) (first .0) 0 n (r .counted),
+      omega (arith, length-labels p, ap length listed, length-append before-it (length before ∷ first .0), r .counted),
     )
 
 -- where item number n begins
@@ -198,15 +203,15 @@ item-at (opens {b = b} c f) (suc n) h = let i = item-at f n (omega arith) in ite
 item-at (closes {b = b} c f) n h = let i = item-at f n h in item-behind (b ∷ []) i (closes c (i .faultless))
 
 -- a fault of the next byte stops the reader there
-fault-stops : {limit at b d : ℕ} {rest : List ℕ} {r : Refusal} (out : Around) (here : Plan ℕ) → depth out ≡ d → Fault limit at b rest d r
-    → read-from limit at 0 out here (b ∷ rest) ≡ REFUSED r
+fault-stops : {limit at b d : ℕ} {rest : List ℕ} {r : TextFault} (out : Around) (here : Plan ℕ) → depth out ≡ d → Fault limit at b rest d r
+    → read-from limit at 0 out here (b ∷ rest) ≡ REFUSED (Text r)
 unfolding read-from go-on move past-token
 fault-stops out here h (bad-byte c) = rw c
 fault-stops out here h (bad-token c e) = rw (c, e)
 fault-stops outermost here h (unmatched c) = rw c
 fault-stops (inside l before out) here h (unmatched c) = absurd (omega arith)
 
-open-stops : (limit at : ℕ) {d : ℕ} (out : Around) (here : Plan ℕ) → depth out ≡ suc d → read-from limit at 0 out here [] ≡ REFUSED (Unclosed (place at))
+open-stops : (limit at : ℕ) {d : ℕ} (out : Around) (here : Plan ℕ) → depth out ≡ suc d → read-from limit at 0 out here [] ≡ REFUSED (Text (Unclosed (place at)))
 unfolding read-from
 open-stops limit at outermost here h = absurd (omega arith)
 open-stops limit at (inside l before out) here h = refl
@@ -254,7 +259,7 @@ row-of {limit} {n} {text} x (stopped before rest b e f g a) h =
     subst (Row limit n text) (refused-injective h)
     (fault before rest b e f (rw (a ∙ zero-add (length before)) at g))
 row-of {limit} {n} {text} x (open-end {at = at} f a) h =
-    subst (Row limit n text) (ap (λ at. Unclosed (place at)) (sym (a ∙ zero-add (length text))) ∙ refused-injective h) (unclosed f)
+    subst (Row limit n text) (ap (λ at. Text (Unclosed (place at))) (sym (a ∙ zero-add (length text))) ∙ refused-injective h) (unclosed f)
 row-of {limit} {n} {text} {r = r} x (whole {p = p} f) h =
     go (leb (cells p) n) refl h
   where

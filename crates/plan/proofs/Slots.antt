@@ -11,7 +11,8 @@ use borrow.Author.Tests.{ltb-false, le-ltb}
 use Rattle.plan.specs.declared.Answer.{Answer}
 use Rattle.plan.specs.declared.Ending.{Ending}
 use Rattle.plan.specs.declared.Refusal.{Refusal}
-use Rattle.plan.specs.declared.Refusal.the-variants.{TooLong, BadArena}
+use Rattle.plan.specs.declared.Refusal.the-variants.{Text, BadArena}
+use Rattle.plan.specs.declared.TextFault.the-variants.{TooLong}
 use Rattle.plan.specs.Plan.{Plan, cells, print, bare}
 use Rattle.plan.specs.Token.{Allowed}
 use Rattle.plan.specs.Reading.{Reading, PLAN, REFUSED, read}
@@ -19,7 +20,8 @@ use Rattle.plan.specs.Running.{Ran as Run, RAN, run-plan}
 use Rattle.plan.specs.Services.{Limits, Outcome, REFUSES, GIVES, accept, as-run, run-read, runs, standard}
 use Rattle.plan.specs.Slots.{after, next-slot, plus-steps, slots, total}
 use Rattle.plan.proofs.Plans.{cells-relabel, print-relabel}
-use Rattle.plan.proofs.ReadBack.{bare-placed, placed, print-bound, read-accepted, read-print}
+use Rattle.plan.specs.Pieces.{placed}
+use Rattle.plan.proofs.ReadBack.{bare-placed, print-bound, read-accepted, read-print}
 use Rattle.plan.proofs.Refusals.{plan-is-no-refusal}
 use Rattle.plan.proofs.Runs.{run-add, run-allowed, run-cells, run-relabel}
 
@@ -39,7 +41,7 @@ unfolding accept
 accepted-text lim n text {p} e = go (ltb (lim .text) (length text)) refl (ltb (lim .cells) n) refl e
   where
     go : (s : Bool) → ltb (lim .text) (length text) ≡ s → (t : Bool) → ltb (lim .cells) n ≡ t
-        → cond s (REFUSED TooLong) (cond t (REFUSED BadArena) (read (lim .token) n text)) ≡ PLAN p → AcceptedText lim n text p
+        → cond s (REFUSED (Text TooLong)) (cond t (REFUSED BadArena) (read (lim .token) n text)) ≡ PLAN p → AcceptedText lim n text p
     go true u t v h = plan-is-no-refusal (sym h)
     go false u true v h = plan-is-no-refusal (sym h)
     go false u false v h = record { short = ltb-false _ _ u; lent = ltb-false _ _ v; reads = h }

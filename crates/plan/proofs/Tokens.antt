@@ -13,16 +13,8 @@ use Rattle.plan.specs.declared.Character.{Character}
 use Rattle.plan.specs.declared.Character.the-variants.{Whole, Malformed}
 use Rattle.plan.specs.Options.{under}
 use Rattle.plan.specs.Plan.{close-brace}
-use Rattle.plan.specs.Token.{
-  character,
-  may-hold,
-  permits,
-  all-permitted,
-  allowed,
-  before-brace,
-  if-allowed,
-  token-text,
-}
+use Rattle.plan.specs.Token.{character, may-hold, permits, all-permitted, allowed, before-brace, if-allowed, token-text}
+use Rattle.plan.specs.Pieces.{Found}
 use Rattle.plan.proofs.Options.{Each, under-each}
 use Rattle.plan.proofs.Tests.{cond-cases, and-true, false-is-not-true}
 use Rattle.plan.proofs.Utf8.{character-bytes, character-one}
@@ -87,12 +79,6 @@ before-brace-splits [] = tt
 before-brace-splits (b ∷ bs) =
     let longer = under-each (b ∷_) (Splits bs) (Splits (b ∷ bs)) (λ t s. (s .0, ap (b ∷_) (s .1))) (before-brace bs) (before-brace-splits bs) in
     cond-cases (Each (Splits (b ∷ bs))) (eqb b close-brace) (λ e. (bs, ap (_∷ bs) (eqb-true b close-brace e))) (λ _. longer)
-
--- what `token-text` finds is an allowed text and the `}` after it
-pub record Found (limit : ℕ) (bs t : List ℕ) : Type 0 where
-  pub rest : List ℕ
-  pub splits : bs ≡ t ++ close-brace ∷ rest
-  pub fine : allowed limit t ≡ true
 
 pub token-text-finds : (limit : ℕ) (bs : List ℕ) → Each (Found limit bs) (token-text limit bs)
 unfolding token-text if-allowed

@@ -1,5 +1,7 @@
+pub mod Frames
 pub mod Numbered
 pub mod Options
+pub mod Pieces
 pub mod Plan
 pub mod Reading
 pub mod Refusals

@@ -8,7 +8,9 @@ use lib.ListN.{length, getD}
 use lib.Dec.{leb, eqb}
 use Rattle.kinds.specs.declared.Place.{Place}
 use Rattle.plan.specs.declared.Refusal.{Refusal}
-use Rattle.plan.specs.declared.Refusal.the-variants.{BadByte, BadToken, Unmatched, Unclosed, Overfull}
+use Rattle.plan.specs.declared.Refusal.the-variants.{Text, Overfull}
+use Rattle.plan.specs.declared.TextFault.{TextFault}
+use Rattle.plan.specs.declared.TextFault.the-variants.{BadByte, BadToken, Unmatched, Unclosed}
 use Rattle.plan.specs.Plan.{
   op-a,
   op-b,
@@ -60,10 +62,10 @@ pub data Around : Type 0 where
   outermost : Around
   inside : ℕ → Plan ℕ → Around → Around
 
--- what one byte makes of the reader: a refusal, or what is open, the sequence so far, and how many of the bytes that
+-- what one byte makes of the reader: a fault, or what is open, the sequence so far, and how many of the bytes that
 -- come next belong to a token already read
 pub data Move : Type 0 where
-  STOP : Refusal → Move
+  STOP : TextFault → Move
   ON : Around → Plan ℕ → ℕ → Move
 
 unfoldable pub past-token : (at : ℕ) → Option (List ℕ) → Around → Plan ℕ → Move
@@ -84,13 +86,13 @@ pub data Reading : Type 0 where
   REFUSED : Refusal → Reading
 
 unfoldable pub go-on : Move → (Around → Plan ℕ → ℕ → Reading) → Reading
-go-on (STOP r) after = REFUSED r
+go-on (STOP f) after = REFUSED (Text f)
 go-on (ON out here skip) after = after out here skip
 
 -- reading from the place `at` on
 unfoldable pub read-from : (limit at skip : ℕ) → Around → Plan ℕ → List ℕ → Reading
 read-from limit at skip outermost here [] = PLAN here
-read-from limit at skip (inside l before out) here [] = REFUSED (Unclosed (place at))
+read-from limit at skip (inside l before out) here [] = REFUSED (Text (Unclosed (place at)))
 read-from limit at (suc skip) out here (b ∷ bs) = read-from limit (suc at) skip out here bs
 read-from limit at zero out here (b ∷ bs) =
     go-on (move limit at (class b) bs out here) (λ out′ here′ skip. read-from limit (suc at) skip out′ here′ bs)

@@ -6,15 +6,9 @@ use mathlib.Core.Option.{none}
 use mathlib.Core.List.{List, [], _∷_, _++_}
 use lib.ListN.{length}
 use Rattle.plan.specs.declared.Refusal.{Refusal}
-use Rattle.plan.specs.declared.Refusal.the-variants.{
-  TooLong,
-  BadArena,
-  BadByte,
-  BadToken,
-  Unmatched,
-  Unclosed,
-  Overfull,
-}
+use Rattle.plan.specs.declared.Refusal.the-variants.{Text, BadArena, Overfull}
+use Rattle.plan.specs.declared.TextFault.{TextFault}
+use Rattle.plan.specs.declared.TextFault.the-variants.{TooLong, BadByte, BadToken, Unmatched, Unclosed}
 use Rattle.plan.specs.Plan.{Operator, close-brace}
 use Rattle.plan.specs.Token.{allowed, token-text}
 use Rattle.plan.specs.Services.{Limits}
@@ -36,7 +30,7 @@ pub data Faultless (limit : ℕ) : ℕ → List ℕ → ℕ → ℕ → Type 0 w
       → class b ≡ CLOSE → Faultless limit d bs e k → Faultless limit (suc d) (b ∷ bs) e k
 
 -- the faults of one byte at the place `at`, with d blocks open and `rest` after it
-pub data Fault (limit at : ℕ) (b : ℕ) (rest : List ℕ) : ℕ → Refusal → Type 0 where
+pub data Fault (limit at : ℕ) (b : ℕ) (rest : List ℕ) : ℕ → TextFault → Type 0 where
   bad-byte : {d : ℕ} → class b ≡ BAD → Fault limit at b rest d (BadByte (place at))
   bad-token : {d : ℕ} → class b ≡ BRACE → token-text limit rest ≡ none → Fault limit at b rest d (BadToken (place at))
   unmatched : class b ≡ CLOSE → Fault limit at b rest 0 (Unmatched (place at))
@@ -52,16 +46,16 @@ Begins BAD = ⊥
 
 -- the first fault; else the end in an open block; else the first item past n
 pub data Row (limit n : ℕ) (text : List ℕ) : Refusal → Type 0 where
-  fault : (before rest : List ℕ) (b : ℕ) {d k : ℕ} {r : Refusal}
-      → text ≡ before ++ b ∷ rest → Faultless limit 0 before d k → Fault limit (length before) b rest d r
-      → Row limit n text r
-  unclosed : {d k : ℕ} → Faultless limit 0 text (suc d) k → Row limit n text (Unclosed (place (length text)))
+  fault : (before rest : List ℕ) (b : ℕ) {d k : ℕ} {f : TextFault}
+      → text ≡ before ++ b ∷ rest → Faultless limit 0 before d k → Fault limit (length before) b rest d f
+      → Row limit n text (Text f)
+  unclosed : {d k : ℕ} → Faultless limit 0 text (suc d) k → Row limit n text (Text (Unclosed (place (length text))))
   overfull : (before rest : List ℕ) (b : ℕ) {d k : ℕ}
       → text ≡ before ++ b ∷ rest → Faultless limit 0 before d n → Begins (class b) → Faultless limit 0 text 0 k
       → Row limit n text (Overfull (place (length before)))
 
 -- the rows 11 and 12 stand before those of the text
 pub data Refuses (lim : Limits) (n : ℕ) (text : List ℕ) : Refusal → Type 0 where
-  too-long : lim .text < length text → Refuses lim n text TooLong
+  too-long : lim .text < length text → Refuses lim n text (Text TooLong)
   bad-arena : length text ≤ lim .text → lim .cells < n → Refuses lim n text BadArena
   bad-text : {r : Refusal} → length text ≤ lim .text → n ≤ lim .cells → Row (lim .token) n text r → Refuses lim n text r

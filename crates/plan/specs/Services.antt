@@ -4,23 +4,16 @@ use mathlib.Core.Bool.{cond}
 use mathlib.Core.List.{List, _++_}
 use lib.ListN.{length, drop, replicate}
 use lib.Dec.{leb, ltb}
-use Rattle.kinds.specs.Limits.{tokenLimit, cellLimit, textLimit}
+use Rattle.kinds.specs.Limits.{tokenLimit, cellLimit, cellNumbers, textLimit}
 use Rattle.plan.specs.declared.Answer.{Answer}
 use Rattle.plan.specs.declared.Answer.the-variants.{Ran, Read, Refused}
 use Rattle.plan.specs.declared.Ending.{Ending}
 use Rattle.plan.specs.declared.Ending.the-variants.{Done, Quota, Full}
 use Rattle.plan.specs.declared.Numbers.{Numbers}
 use Rattle.plan.specs.declared.Refusal.{Refusal}
-use Rattle.plan.specs.declared.Refusal.the-variants.{
-  TooLong,
-  BadArena,
-  BadByte,
-  BadToken,
-  Unmatched,
-  Unclosed,
-  Overfull,
-  OutShort,
-}
+use Rattle.plan.specs.declared.Refusal.the-variants.{Text, BadArena, Overfull, OutShort}
+use Rattle.plan.specs.declared.TextFault.{TextFault}
+use Rattle.plan.specs.declared.TextFault.the-variants.{TooLong, BadByte, BadToken, Unmatched, Unclosed}
 use Rattle.plan.specs.Plan.{cells, print}
 use Rattle.plan.specs.Reading.{Reading, PLAN, REFUSED, read}
 use Rattle.plan.specs.Running.{Ran as Run, RAN, run-plan}
@@ -31,23 +24,29 @@ ending-number Done = 0
 ending-number Quota = 1
 ending-number Full = 2
 
+abbrev pub fault-number : TextFault → ℕ
+fault-number TooLong = 11
+fault-number (BadByte at) = 13
+fault-number (BadToken at) = 14
+fault-number (Unmatched at) = 15
+fault-number (Unclosed at) = 16
+
+abbrev pub fault-place : TextFault → ℕ
+fault-place TooLong = 0
+fault-place (BadByte at) = at .0
+fault-place (BadToken at) = at .0
+fault-place (Unmatched at) = at .0
+fault-place (Unclosed at) = at .0
+
 abbrev pub refusal-number : Refusal → ℕ
-refusal-number TooLong = 11
+refusal-number (Text f) = fault-number f
 refusal-number BadArena = 12
-refusal-number (BadByte at) = 13
-refusal-number (BadToken at) = 14
-refusal-number (Unmatched at) = 15
-refusal-number (Unclosed at) = 16
 refusal-number (Overfull at) = 17
 refusal-number (OutShort needed) = 18
 
 abbrev pub refusal-place : Refusal → ℕ
-refusal-place TooLong = 0
+refusal-place (Text f) = fault-place f
 refusal-place BadArena = 0
-refusal-place (BadByte at) = at .0
-refusal-place (BadToken at) = at .0
-refusal-place (Unmatched at) = at .0
-refusal-place (Unclosed at) = at .0
 refusal-place (Overfull at) = at .0
 refusal-place (OutShort needed) = needed
 
@@ -68,7 +67,7 @@ standard = record { token = tokenLimit; cells = cellLimit; text = textLimit }
 -- 11, 12, then 13 to 17, with n cells lent
 unfoldable pub accept : Limits → (n : ℕ) → List ℕ → Reading
 accept lim n text =
-    cond (ltb (lim .text) (length text)) (REFUSED TooLong)
+    cond (ltb (lim .text) (length text)) (REFUSED (Text TooLong))
     (cond (ltb (lim .cells) n) (REFUSED BadArena) (read (lim .token) n text))
 
 -- a refusal, or an answer with the printed text that goes with it
@@ -118,7 +117,7 @@ tidy lim text output = write (reads lim text) output
 
 -- of the work memory only its length counts: a quarter of it, rounded down, in cells
 unfoldable pub run : Limits → (text : List ℕ) → (quota memory-length : ℕ) → (output : List ℕ) → Written
-run lim text quota memory-length output = write (runs lim (memory-length / 4) quota text) output
+run lim text quota memory-length output = write (runs lim (memory-length / cellNumbers) quota text) output
 
 -- the work memory after every RUN
 unfoldable pub cleared : List ℕ → List ℕ

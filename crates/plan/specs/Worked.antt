@@ -1,12 +1,14 @@
 -- The plans of document 01, "Plans to try", P1 to P12, and rows more that tell the feared slips apart where those do not:
 -- FULL at quota 0, P11 at quota 2, the places of 16 and 17, and what a token may hold.
-use Prim.Native.Nat.{ℕ}
+use Prim.Native.Nat.{ℕ, _*_, _-_}
 use Prim.Native.Char.{code}
 use Prim.Native.String.{String, [] as empty, _∷_ as _then-char_}
 use mathlib.Core.List.{List, [], _∷_, _++_}
-use lib.ListN.{length, replicate}
+use lib.ListN.{length, drop, replicate}
+use Rattle.kinds.specs.Limits.{cellLimit, cellNumbers, tokenLimit}
 use Rattle.plan.specs.declared.Numbers.{Numbers}
 use Rattle.plan.specs.Plan.{open-brace, close-brace}
+use Rattle.plan.specs.Services.{numbers, run, standard}
 
 pub record Row : Type 0 where
   pub text : List ℕ
@@ -49,28 +51,28 @@ token-refused bs = record { text = braced bs; quota = 0; cells = 1; numbers = fi
 unfoldable pub worked : List Row
 worked =
     row "" 100 0 0 0 0 0 0 "" ∷
-    row "[{x}][{y}]a" 100 4096 0 1 3 8 0 "{y}[{x}]" ∷
-    row "[{x}][{y}]b" 100 4096 0 1 4 10 0 "[[{x}]{y}]" ∷
-    row "[{x}]c" 100 4096 0 1 4 10 0 "[{x}][{x}]" ∷
-    row "[{x}]d" 100 4096 0 1 0 0 0 "" ∷
-    row "[{x}][{y}][]ba" 100 4096 0 2 4 10 0 "[{y}][{x}]" ∷
-    row "[{x}][{y}][]ba" 1 4096 1 1 6 13 0 "[{x}][[{y}]]a" ∷
-    row "[{x}][][]baad" 100 4096 0 4 1 3 0 "{x}" ∷
-    row "[{x}]{y}d" 100 4096 0 0 4 9 0 "[{x}]{y}d" ∷
-    row "[[]d]d" 100 4096 0 1 0 0 0 "" ∷
-    row "[[]d]c" 100 4096 0 3 2 4 0 "[][]" ∷
+    row "[{x}][{y}]a" 100 cellLimit 0 1 3 8 0 "{y}[{x}]" ∷
+    row "[{x}][{y}]b" 100 cellLimit 0 1 4 10 0 "[[{x}]{y}]" ∷
+    row "[{x}]c" 100 cellLimit 0 1 4 10 0 "[{x}][{x}]" ∷
+    row "[{x}]d" 100 cellLimit 0 1 0 0 0 "" ∷
+    row "[{x}][{y}][]ba" 100 cellLimit 0 2 4 10 0 "[{y}][{x}]" ∷
+    row "[{x}][{y}][]ba" 1 cellLimit 1 1 6 13 0 "[{x}][[{y}]]a" ∷
+    row "[{x}][][]baad" 100 cellLimit 0 4 1 3 0 "{x}" ∷
+    row "[{x}]{y}d" 100 cellLimit 0 0 4 9 0 "[{x}]{y}d" ∷
+    row "[[]d]d" 100 cellLimit 0 1 0 0 0 "" ∷
+    row "[[]d]c" 100 cellLimit 0 3 2 4 0 "[][]" ∷
     row "[c[][]baad]c[][]baad" 100 22 2 4 17 23 0 "[c[][]baad]c[][]baad[]d" ∷
     row "[c[][]baad]c[][]baad" 0 21 2 0 15 20 0 "[c[][]baad]c[][]baad" ∷
-    row "[[]d]c" 2 4096 1 2 4 7 0 "[][[]d]" ∷
-    row "[[]" 100 4096 16 0 0 0 3 "" ∷
+    row "[[]d]c" 2 cellLimit 1 2 4 7 0 "[][[]d]" ∷
+    row "[[]" 100 cellLimit 16 0 0 0 3 "" ∷
     row "[c[][]baad]c[][]baad" 100 14 17 0 0 0 19 "" ∷
     token-read (0x20 ∷ []) ∷
-    token-read (replicate 62 0x78) ∷
+    token-read (replicate (tokenLimit - 2) 0x78) ∷
     token-read (0xC2 ∷ 0xA0 ∷ []) ∷
     token-read (0xEF ∷ 0xBF ∷ 0xBC ∷ []) ∷
     token-read (0xF4 ∷ 0x8F ∷ 0xBF ∷ 0xBF ∷ []) ∷
     token-refused [] ∷
-    token-refused (replicate 63 0x78) ∷
+    token-refused (replicate (tokenLimit - 1) 0x78) ∷
     token-refused (open-brace ∷ []) ∷
     token-refused (0x1F ∷ []) ∷
     token-refused (0x7F ∷ []) ∷
@@ -79,3 +81,19 @@ worked =
     token-refused (0xC1 ∷ 0xBF ∷ []) ∷
     token-refused (0xED ∷ 0xA0 ∷ 0x80 ∷ []) ∷
     token-refused (0xF4 ∷ 0x90 ∷ 0x80 ∷ 0x80 ∷ []) ∷ []
+
+-- what an answer and an output say, outputs being 70 bytes that each held 7
+pub record Told : Type 0 where
+  pub says : Numbers
+  pub holds : List ℕ
+
+unfoldable pub sheet : List ℕ
+sheet = replicate 70 7
+
+unfoldable pub answered : Row → Told
+answered r =
+    let w = run standard (r .text) (r .quota) (cellNumbers * r .cells) sheet in
+    record { says = numbers (w .answer); holds = w .output }
+
+unfoldable pub expected : Row → Told
+expected r = record { says = r .numbers; holds = r .printed ++ drop (length (r .printed)) sheet }

@@ -1,7 +1,8 @@
 // What the services answer. The definitions in specs/ speak of these types, so that a promise is one equation.
 ghost use mathlib.Core.Path.{_≡_};
 ghost use Rattle.plan.specs.Numbered.{operator-number, operator-of, class-of};
-ghost use Rattle.plan.specs.Services.{ending-number, refusal-number, refusal-place, numbers};
+ghost use Rattle.plan.specs.Plan.{letter};
+ghost use Rattle.plan.specs.Services.{ending-number, fault-number, fault-place, refusal-number, refusal-place, numbers};
 use kinds::Place;
 
 pub enum Operator {
@@ -34,20 +35,25 @@ pub enum Ending {
     Full,
 }
 
-// Why a call is refused, with the place that goes with it.
-pub enum Refusal {
+// What is wrong with a text, with the place of the fault: every family of services that reads a text shares these.
+pub enum TextFault {
     TooLong,
-    BadArena,
     BadByte(Place),
     BadToken(Place),
     Unmatched(Place),
     Unclosed(Place),
+}
+
+// Why a call of CHECK, TIDY or RUN is refused, with the place that goes with it.
+pub enum Refusal {
+    Text(TextFault),
+    BadArena,
     Overfull(Place),
     // The bytes needed.
     OutShort(u32),
 }
 
-// A refusal carries no steps, no cells and no length: it has none.
+// What CHECK, TIDY and RUN answer. A refusal carries no steps, no cells and no length: it has none.
 pub enum Answer {
     Ran {
         ending: Ending,
@@ -81,6 +87,18 @@ impl Operator {
             Operator::B => 1,
             Operator::C => 2,
             Operator::D => 3,
+        }
+    }
+
+    // The byte that it is read from and printed as.
+    pub fn letter(self) -> u8
+        ensures { λ r. ⌜ r ≡ letter self ⌝ }
+    {
+        match self {
+            Operator::A => b'a',
+            Operator::B => b'b',
+            Operator::C => b'c',
+            Operator::D => b'd',
         }
     }
 
@@ -124,17 +142,39 @@ impl Ending {
     }
 }
 
+impl TextFault {
+    pub fn number(self) -> u32
+        ensures { λ r. ⌜ r ≡ fault-number self ⌝ }
+    {
+        match self {
+            TextFault::TooLong => 11,
+            TextFault::BadByte(_) => 13,
+            TextFault::BadToken(_) => 14,
+            TextFault::Unmatched(_) => 15,
+            TextFault::Unclosed(_) => 16,
+        }
+    }
+
+    pub fn place(self) -> u32
+        ensures { λ r. ⌜ r ≡ fault-place self ⌝ }
+    {
+        match self {
+            TextFault::TooLong => 0,
+            TextFault::BadByte(at) => at.0,
+            TextFault::BadToken(at) => at.0,
+            TextFault::Unmatched(at) => at.0,
+            TextFault::Unclosed(at) => at.0,
+        }
+    }
+}
+
 impl Refusal {
     pub fn number(self) -> u32
         ensures { λ r. ⌜ r ≡ refusal-number self ⌝ }
     {
         match self {
-            Refusal::TooLong => 11,
+            Refusal::Text(fault) => fault.number(),
             Refusal::BadArena => 12,
-            Refusal::BadByte(_) => 13,
-            Refusal::BadToken(_) => 14,
-            Refusal::Unmatched(_) => 15,
-            Refusal::Unclosed(_) => 16,
             Refusal::Overfull(_) => 17,
             Refusal::OutShort(_) => 18,
         }
@@ -144,12 +184,8 @@ impl Refusal {
         ensures { λ r. ⌜ r ≡ refusal-place self ⌝ }
     {
         match self {
-            Refusal::TooLong => 0,
+            Refusal::Text(fault) => fault.place(),
             Refusal::BadArena => 0,
-            Refusal::BadByte(at) => at.0,
-            Refusal::BadToken(at) => at.0,
-            Refusal::Unmatched(at) => at.0,
-            Refusal::Unclosed(at) => at.0,
             Refusal::Overfull(at) => at.0,
             Refusal::OutShort(needed) => needed,
         }

@@ -14,7 +14,7 @@ use reader::survey;
 
 const CELLS: usize = Cell::LIMIT;
 
-const MEMORY: usize = 4 * CELLS;
+const MEMORY: usize = Cell::NUMBERS * CELLS;
 
 // The deepest plan: a `[` and a `]` for each cell.
 const OUTPUT: usize = 2 * CELLS;
@@ -29,7 +29,7 @@ fn print_back(text: &[u8], lent: &mut [u32], output: &mut [u8]) -> Back {
     if Place::LIMIT < text.len() {
         return Back::Refused;
     }
-    let cells = lent.len() / 4;
+    let cells = lent.len() / Cell::NUMBERS;
     if Cell::LIMIT < cells {
         return Back::Refused;
     }
@@ -40,7 +40,7 @@ fn print_back(text: &[u8], lent: &mut [u32], output: &mut [u8]) -> Back {
         return Back::Refused;
     }
     let held = build_plan(text, lent, Cell::new(cells));
-    print_into(text, lent, held, output);
+    print_into(text, lent, held, output, 0);
     clear(lent);
     Back::Printed(length as usize)
 }

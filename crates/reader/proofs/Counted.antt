@@ -3,18 +3,25 @@ use Prim.Native.Nat.{ℕ, _+_, _-_, _<_, _≤_}
 use mathlib.Core.Path.{_≡_, ap, sym, _∙_}
 use mathlib.Core.Bool.{Bool, true, false}
 use mathlib.Core.Logic.{_≢_}
-use native.Mathlib.Omega.{arith}
 use borrow.Author.Tests.{eq-eqb, ne-eqb, lt-ltb, le-ltb}
 use Rattle.kinds.specs.declared.Place.{Place}
 use Rattle.plan.specs.Plan.{close-brace}
 use Rattle.plan.specs.Token.{may-hold}
 use Rattle.plan.specs.Reading.{class, place}
-use Rattle.plan.specs.declared.Class.the-variants.{Close as CLOSE}
+use Rattle.plan.specs.declared.Class.{Class}
+use Rattle.plan.specs.declared.Class.the-variants.{
+  Operator as OPERATOR,
+  Open as OPEN,
+  Close as CLOSE,
+  Brace as BRACE,
+  Blank as BLANK,
+  Bad as BAD,
+}
+use Rattle.plan.specs.declared.Operator.{Operator}
 use Rattle.plan.specs.declared.Character.{Character}
 use Rattle.plan.specs.declared.Character.the-variants.{Whole, Malformed}
-use Rattle.plan.specs.declared.Refusal.the-variants.{BadByte, Unmatched, Unclosed, Overfull}
-use Rattle.text.specs.Classes.{class-number}
-use Rattle.text.proofs.ClassNumbers.{by-number, operator-number, other-number}
+use Rattle.plan.specs.declared.Refusal.the-variants.{Text, Overfull}
+use Rattle.plan.specs.declared.TextFault.the-variants.{BadByte, Unmatched, Unclosed}
 use Rattle.reader.specs.Counting.{one-item, opened, closed, stepped, in-token, finished}
 use Rattle.reader.specs.declared.Count.{Count}
 use Rattle.reader.specs.declared.InToken.the-variants.{Further, Close, Bad}
@@ -32,34 +39,29 @@ module _ (n : Count) (at room bytes : ℕ) where
   pub item-within : n .cells ≢ room → item (n .past) ≡ one-item n at room bytes
   item-within e = simp (ne-eqb (n .cells) room e)
 
-module _ (n : Count) (b at room : ℕ) {m : ℕ} (e : m ≡ class-number (class b)) where
-  is-class : (k : ℕ) → m ≡ k → 4 ≤ k → class b ≡ by-number k
-  is-class k h g = other-number (class b) e (omega arith) ∙ ap by-number h
-
-  pub step-operator : (r : Count) → m < 4 → r ≡ one-item n at room 1 → On r ≡ stepped n (class b) at room
+module _ (n : Count) (b at room : ℕ) {k : Class} (e : k ≡ class b) where
+  pub step-operator : (o : Operator) (r : Count) → k ≡ OPERATOR o → r ≡ one-item n at room 1 → On r ≡ stepped n (class b) at room
   unfolding stepped
-  step-operator r h g = rw (operator-number (class b) e h .1) (ap On g)
+  step-operator o r h g = rw (sym e ∙ h) (ap On g)
 
-  pub step-open : (r : Count) → m ≡ 4 → r ≡ opened n at room → On r ≡ stepped n (class b) at room
+  pub step-open : (r : Count) → k ≡ OPEN → r ≡ opened n at room → On r ≡ stepped n (class b) at room
   unfolding stepped
-  step-open r h g = rw (is-class 4 h (omega arith)) (ap On g)
+  step-open r h g = rw (sym e ∙ h) (ap On g)
 
-  pub step-close : (r : Step) → m ≡ 5 → r ≡ stepped n CLOSE at room → r ≡ stepped n (class b) at room
-  step-close r h g = rw (is-class 5 h (omega arith)) g
+  pub step-close : (r : Step) → k ≡ CLOSE → r ≡ stepped n CLOSE at room → r ≡ stepped n (class b) at room
+  step-close r h g = rw (sym e ∙ h) g
 
-  pub step-brace : m ≡ 6 → Token ≡ stepped n (class b) at room
+  pub step-brace : k ≡ BRACE → Token ≡ stepped n (class b) at room
   unfolding stepped
-  step-brace h = rw (is-class 6 h (omega arith))
+  step-brace h = rw (sym e ∙ h)
 
-  pub step-blank : m ≡ 7 → On n ≡ stepped n (class b) at room
+  pub step-blank : k ≡ BLANK → On n ≡ stepped n (class b) at room
   unfolding stepped
-  step-blank h = rw (is-class 7 h (omega arith))
+  step-blank h = rw (sym e ∙ h)
 
-  pub step-bad : (p : Place) → 4 ≤ m → m ≢ 4 → m ≢ 5 → m ≢ 6 → m ≢ 7 → p .0 ≡ at → Stop (BadByte p) ≡ stepped n (class b) at room
+  pub step-bad : (p : Place) → k ≡ BAD → p .0 ≡ at → Stop (BadByte p) ≡ stepped n (class b) at room
   unfolding stepped
-  step-bad p h h₄ h₅ h₆ h₇ g =
-      rw (other-number (class b) e h, ne-eqb m 4 h₄, ne-eqb m 5 h₅, ne-eqb m 6 h₆, ne-eqb m 7 h₇)
-      (ap (λ k. Stop (BadByte (place k))) g)
+  step-bad p h g = rw (sym e ∙ h) (ap (λ i. Stop (BadByte (place i))) g)
 
 module _ (n : Count) (at room : ℕ) where
   pub close-unmatched : (p : Place) → n .depth ≡ 0 → p .0 ≡ at → Stop (Unmatched p) ≡ stepped n CLOSE at room
@@ -70,9 +72,9 @@ module _ (n : Count) (at room : ℕ) where
   unfolding stepped
   close-matched h = rw (ne-eqb (n .depth) 0 h)
 
-  pub end-open : (p : Place) → 0 < n .depth → p .0 ≡ at → Refused (Unclosed p) ≡ finished n at room
+  pub end-open : (p : Place) → 0 < n .depth → p .0 ≡ at → Refused (Text (Unclosed p)) ≡ finished n at room
   unfolding finished
-  end-open p h g = rw (lt-ltb 0 (n .depth) h) (ap (λ k. Refused (Unclosed (place k))) g)
+  end-open p h g = rw (lt-ltb 0 (n .depth) h) (ap (λ k. Refused (Text (Unclosed (place k)))) g)
 
   pub end-past : n .depth ≤ 0 → room < n .cells → Refused (Overfull (n .past)) ≡ finished n at room
   unfolding finished

@@ -18,8 +18,9 @@ use Rattle.plan.specs.Reading.{class, place, read, without-blanks}
 use Rattle.plan.specs.declared.Class.{Class}
 use Rattle.plan.specs.declared.Class.the-variants.{Operator as OPERATOR, Open as OPEN, Close as CLOSE, Brace as BRACE, Blank as BLANK, Bad as BAD}
 use Rattle.plan.specs.Refusals.{Faultless, nothing, blank, an-operator, opens, closes, Fault, bad-byte, unmatched, Begins, fault, unclosed, overfull}
-use Rattle.plan.specs.declared.Refusal.{Refusal}
-use Rattle.plan.specs.declared.Refusal.the-variants.{Unmatched, Unclosed, Overfull}
+use Rattle.plan.specs.declared.Refusal.the-variants.{Text, Overfull}
+use Rattle.plan.specs.declared.TextFault.{TextFault}
+use Rattle.plan.specs.declared.TextFault.the-variants.{Unmatched, Unclosed}
 use Rattle.plan.proofs.Blanks.{kept, dropped}
 use Rattle.plan.proofs.Classes.{clash}
 use Rattle.plan.proofs.Faultless.{take-one, faultless-then, blanks-then, faultless-bounds, without-blanks-length}
@@ -115,16 +116,16 @@ going-start text room n short d c l =
 on-injective : {n m : Count} → On n ≡ On m → n ≡ m
 on-injective e = cc
 
-stop-injective : {r s : Refusal} → Stop r ≡ Stop s → r ≡ s
+stop-injective : {r s : TextFault} → Stop r ≡ Stop s → r ≡ s
 stop-injective e = cc
 
-stop-is-not-on : {A : Type 0} {r : Refusal} {n : Count} → Stop r ≡ On n → A
+stop-is-not-on : {A : Type 0} {r : TextFault} {n : Count} → Stop r ≡ On n → A
 stop-is-not-on e = absurd (let z : _≡_ {A = ℕ} 0 1 = cc in omega arith)
 
 pub token-is-not-on : {A : Type 0} {n : Count} → Token ≡ On n → A
 token-is-not-on e = absurd (let z : _≡_ {A = ℕ} 0 1 = cc in omega arith)
 
-pub token-is-not-stop : {A : Type 0} {r : Refusal} → Token ≡ Stop r → A
+pub token-is-not-stop : {A : Type 0} {r : TextFault} → Token ≡ Stop r → A
 token-is-not-stop e = absurd (let z : _≡_ {A = ℕ} 0 1 = cc in omega arith)
 
 -- the byte at the place
@@ -165,31 +166,31 @@ module _ {text : List ℕ} {room at : ℕ} {n : Count} (g : Going text room n at
   going-on m e = on-by-class (class here) refl m (sym e)
 
   -- a fault at this place is what reading refuses
-  pub refused-here : {r : Refusal} → Fault tokenLimit at here (drop (suc at) text) (n .depth) r → Refused r ≡ surveyed (read tokenLimit room text)
+  pub refused-here : {r : TextFault} → Fault tokenLimit at here (drop (suc at) text) (n .depth) r → Refused (Text r) ≡ surveyed (read tokenLimit room text)
   unfolding surveyed
   refused-here {r} f =
       rw (row-refused {limit = tokenLimit} {n = room}
       (fault (take at text) (drop (suc at) text) here (split-at text at 0 inside) (g .clean)
       (subst (λ k. Fault tokenLimit k here (drop (suc at) text) (n .depth) r) (sym (length-take-le at text (g .within))) f)))
 
-  stop-by-class : (k : Class) → class here ≡ k → (r : Refusal) → stepped n k at room ≡ Stop r → Refused r ≡ surveyed (read tokenLimit room text)
+  stop-by-class : (k : Class) → class here ≡ k → (r : TextFault) → stepped n k at room ≡ Stop r → Refused (Text r) ≡ surveyed (read tokenLimit room text)
   unfolding stepped
   stop-by-class (OPERATOR o) c r e = stop-is-not-on (sym e)
   stop-by-class OPEN c r e = stop-is-not-on (sym e)
   stop-by-class CLOSE c r e = go (eqb (n .depth) 0) refl e
     where
       go : (t : Bool) → eqb (n .depth) 0 ≡ t → cond t (Stop (Unmatched (place at))) (On (closed n)) ≡ Stop r
-          → Refused r ≡ surveyed (read tokenLimit room text)
+          → Refused (Text r) ≡ surveyed (read tokenLimit room text)
       go true h e =
-          subst (λ s. Refused s ≡ surveyed (read tokenLimit room text)) (stop-injective e)
+          subst (λ s. Refused (Text s) ≡ surveyed (read tokenLimit room text)) (stop-injective e)
           (refused-here (rw (eqb-true (n .depth) 0 h) (unmatched c)))
       go false h e = stop-is-not-on (sym e)
   stop-by-class BRACE c r e = token-is-not-stop e
   stop-by-class BLANK c r e = stop-is-not-on (sym e)
   stop-by-class BAD c r e =
-      subst (λ s. Refused s ≡ surveyed (read tokenLimit room text)) (stop-injective e) (refused-here (bad-byte c))
+      subst (λ s. Refused (Text s) ≡ surveyed (read tokenLimit room text)) (stop-injective e) (refused-here (bad-byte c))
 
-  pub going-stop : (r : Refusal) → Stop r ≡ stepped n (class here) at room → Refused r ≡ surveyed (read tokenLimit room text)
+  pub going-stop : (r : TextFault) → Stop r ≡ stepped n (class here) at room → Refused (Text r) ≡ surveyed (read tokenLimit room text)
   going-stop r e = stop-by-class (class here) refl r (sym e)
 
 accepted : {limit k l : ℕ} {text : List ℕ} (room : ℕ) (t : TextRead limit text k) → k ≤ room → length (without-blanks false text) ≡ l
@@ -213,11 +214,11 @@ going-end {text} {room} {at} {n} g ended = go (ltb 0 (n .depth)) refl (ltb room 
     none-open h = let closed-all : n .depth ≡ 0 = (let some = ltb-false 0 (n .depth) h in omega arith) in rw closed-all at whole
 
     go : (s : Bool) → ltb 0 (n .depth) ≡ s → (t : Bool) → ltb room (n .cells) ≡ t
-        → cond s (Refused (Unclosed (place at))) (cond t (Refused (Overfull (n .past))) (Accepted (n .cells) (n .length)))
+        → cond s (Refused (Text (Unclosed (place at)))) (cond t (Refused (Overfull (n .past))) (Accepted (n .cells) (n .length)))
         ≡ surveyed (read tokenLimit room text)
     go true h t g′ =
         let deep : n .depth ≡ suc (n .depth - 1) = (let some-open = ltb-true 0 (n .depth) h in omega arith) in
-        rw (row-refused {limit = tokenLimit} {n = room} (unclosed (rw deep at whole))) (ap (λ k. Refused (Unclosed (place k))) end)
+        rw (row-refused {limit = tokenLimit} {n = room} (unclosed (rw deep at whole))) (ap (λ k. Refused (Text (Unclosed (place k)))) end)
     go false h true g′ =
         let p = g .past (ltb-true room (n .cells) g′) in
         let first = n .past .0 in

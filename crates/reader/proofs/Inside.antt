@@ -20,7 +20,8 @@ use Rattle.plan.specs.declared.Class.the-variants.{Operator as OPERATOR, Open a
 use Rattle.plan.specs.Refusals.{nothing, a-token, bad-token}
 use Rattle.plan.specs.declared.Character.{Character}
 use Rattle.plan.specs.declared.Character.the-variants.{Whole, Malformed}
-use Rattle.plan.specs.declared.Refusal.the-variants.{BadToken, Unmatched}
+use Rattle.plan.specs.declared.Refusal.the-variants.{Text}
+use Rattle.plan.specs.declared.TextFault.the-variants.{BadToken, Unmatched}
 use Rattle.plan.proofs.Blanks.{token-kept}
 use Rattle.plan.proofs.Classes.{class-byte}
 use Rattle.plan.proofs.Tokens.{allowed-no-brace}
@@ -137,7 +138,7 @@ module _ {text : List ℕ} {room at end : ℕ} {n : Count} (i : Inside text room
   taken : length (part text at end) ≡ end - at - 1
   taken = length-take-le (end - at - 1) (drop (suc at) text) (omega (arith, length-drop (suc at) text, i .ahead, i .within))
 
-  no-token : token-text tokenLimit (part text at end ++ drop end text) ≡ none → Refused (BadToken (place at)) ≡ surveyed (read tokenLimit room text)
+  no-token : token-text tokenLimit (part text at end ++ drop end text) ≡ none → Refused (Text (BadToken (place at))) ≡ surveyed (read tokenLimit room text)
   no-token e = refused-here (i .going) (i .starts) (bad-token (i .brace) (ap (token-text tokenLimit) bytes-after ∙ e))
 
   -- the next character is a `}`
@@ -159,7 +160,7 @@ module _ {text : List ℕ} {room at end : ℕ} {n : Count} (i : Inside text room
   bad a (forbidden x other held) e = token-forbidden tokenLimit (part text at end) (drop end text) (i .scanned) x held other
   bad a (further x fine few) e = absurd (let z : _≡_ {A = ℕ} 0 1 = cc in omega arith)
 
-  pub inside-bad : Bad ≡ in-token tokenLimit (end - at - 1) (character (drop end text)) → Refused (BadToken (place at)) ≡ surveyed (read tokenLimit room text)
+  pub inside-bad : Bad ≡ in-token tokenLimit (end - at - 1) (character (drop end text)) → Refused (Text (BadToken (place at))) ≡ surveyed (read tokenLimit room text)
   inside-bad e = no-token (bad _ (said tokenLimit (end - at - 1) (character (drop end text))) (sym e))
 
   on : (w : ℕ) (a : InToken) → Said tokenLimit (end - at - 1) (character (drop end text)) a → a ≡ Further w

@@ -15,19 +15,11 @@ use borrow.Author.Tests.{le-leb}
 use Rattle.plan.specs.declared.Character.{Character}
 use Rattle.plan.specs.declared.Character.the-variants.{Whole, Malformed}
 use Rattle.plan.specs.Plan.{close-brace}
-use Rattle.plan.specs.Token.{
-  character,
-  may-hold,
-  permits,
-  all-permitted,
-  allowed,
-  before-brace,
-  if-allowed,
-  token-text,
-}
+use Rattle.plan.specs.Token.{character, may-hold, permits, all-permitted, allowed, before-brace, if-allowed, token-text}
+use Rattle.plan.specs.Pieces.{Found}
 use Rattle.plan.proofs.Options.{Each}
 use Rattle.plan.proofs.Tests.{and-true, false-is-not-true}
-use Rattle.plan.proofs.Tokens.{NoBrace, Found, allowed-parts, allowed-no-brace, token-text-finds}
+use Rattle.plan.proofs.Tokens.{NoBrace, allowed-parts, allowed-no-brace, token-text-finds}
 use Rattle.plan.proofs.Utf8.{character-frame, character-width}
 
 -- whole characters that a token may hold

@@ -11,7 +11,8 @@ use Rattle.plan.specs.declared.Class.{Class}
 use Rattle.plan.specs.declared.Class.the-variants.{Operator as OPERATOR, Open as OPEN, Close as CLOSE, Brace as BRACE, Blank as BLANK, Bad as BAD}
 use Rattle.plan.specs.declared.Character.{Character}
 use Rattle.plan.specs.declared.Character.the-variants.{Whole, Malformed}
-use Rattle.plan.specs.declared.Refusal.the-variants.{BadByte, Unmatched, Unclosed, Overfull}
+use Rattle.plan.specs.declared.Refusal.the-variants.{Text, Overfull}
+use Rattle.plan.specs.declared.TextFault.the-variants.{BadByte, Unmatched, Unclosed}
 use Rattle.reader.specs.declared.Count.{Count}
 use Rattle.reader.specs.declared.InToken.{InToken}
 use Rattle.reader.specs.declared.InToken.the-variants.{Further, Close, Bad}
@@ -64,7 +65,7 @@ in-token limit taken (Whole v width) =
 -- the end of the text
 unfoldable pub finished : Count → (at room : ℕ) → Surveyed
 finished n at room =
-    cond (ltb 0 (n .depth)) (Refused (Unclosed (place at)))
+    cond (ltb 0 (n .depth)) (Refused (Text (Unclosed (place at))))
     (cond (ltb room (n .cells)) (Refused (Overfull (n .past))) (Accepted (n .cells) (n .length)))
 
 -- what a survey says of what reading says

@@ -12,7 +12,10 @@ ghost use Rattle.reader.specs.Counting.{Small, one-item, opened, stepped
 use kinds::Place;
 use kinds::Token;
 use plan::Character;
+use plan::Class;
 use plan::Refusal;
+use plan::TextFault;
+use text::CLOSE_BRACE;
 use text::character_at;
 use text::class_of;
 use text::may_hold;
@@ -30,7 +33,7 @@ pub struct Count {
 pub enum Step {
     On(Count),
     Token,
-    Stop(Refusal),
+    Stop(TextFault),
 }
 
 // What the next byte of a token begins: a character that the token may hold, its end, or a fault.
@@ -88,7 +91,7 @@ fn close_block(count: Count, at: usize, room: u32) -> Step
     ensures { λ r. ⌜ r ≡ stepped count CLOSE at room ⌝ }
 {
     if count.depth == 0 {
-        return Step::Stop(Refusal::Unmatched(Place::new(at)));
+        return Step::Stop(TextFault::Unmatched(Place::new(at)));
     }
     let past = count.past;
     Step::On(Count {
@@ -103,23 +106,14 @@ fn read_byte(count: Count, byte: u8, at: usize, room: u32) -> Step
     requires { ⌜ Small count × (at ≤ textLimit) ⌝ }
     ensures { λ r. ⌜ r ≡ stepped count (class byte) at room ⌝ }
 {
-    let class = class_of(byte);
-    if class < 4 {
-        return Step::On(one_item(count, at, room, 1));
+    match class_of(byte) {
+        Class::Operator(_) => Step::On(one_item(count, at, room, 1)),
+        Class::Open => Step::On(open_block(count, at, room)),
+        Class::Close => close_block(count, at, room),
+        Class::Brace => Step::Token,
+        Class::Blank => Step::On(count),
+        Class::Bad => Step::Stop(TextFault::BadByte(Place::new(at))),
     }
-    if class == 4 {
-        return Step::On(open_block(count, at, room));
-    }
-    if class == 5 {
-        return close_block(count, at, room);
-    }
-    if class == 6 {
-        return Step::Token;
-    }
-    if class == 7 {
-        return Step::On(count);
-    }
-    Step::Stop(Refusal::BadByte(Place::new(at)))
 }
 
 fn token_byte(text: &[u8], at: usize, taken: usize) -> InToken
@@ -129,7 +123,7 @@ fn token_byte(text: &[u8], at: usize, taken: usize) -> InToken
     let Character::Whole { value, width } = character_at(text, at) else {
         return InToken::Bad;
     };
-    if value == 125 {
+    if value == CLOSE_BRACE {
         if taken == 0 {
             return InToken::Bad;
         }
@@ -150,7 +144,7 @@ fn finish(count: Count, at: usize, room: u32) -> Surveyed
     ensures { λ r. ⌜ r ≡ finished count at room ⌝ }
 {
     if 0 < count.depth {
-        return Surveyed::Refused(Refusal::Unclosed(Place::new(at)));
+        return Surveyed::Refused(Refusal::Text(TextFault::Unclosed(Place::new(at))));
     }
     let past = count.past;
     if room < count.cells {
@@ -173,7 +167,7 @@ pub fn survey(text: &[u8], room: u32) -> Surveyed
         past: Place::new(0),
     };
     let mut at: usize = 0;
-    let refusal = 'items: loop {
+    let fault = 'items: loop {
         if text.len() <= at {
             return finish(count, at, room);
         }
@@ -182,14 +176,14 @@ pub fn survey(text: &[u8], room: u32) -> Surveyed
                 count = next;
                 at += 1;
             }
-            Step::Stop(refusal) => break 'items refusal,
+            Step::Stop(fault) => break 'items fault,
             Step::Token => {
                 let mut end = at + 1;
                 loop {
                     match token_byte(text, end, end - at - 1) {
                         InToken::Further(width) => end += width as usize,
                         InToken::Close => break,
-                        InToken::Bad => break 'items Refusal::BadToken(Place::new(at)),
+                        InToken::Bad => break 'items TextFault::BadToken(Place::new(at)),
                     }
                 }
                 count = one_item(count, at, room, (end + 1 - at) as u32);
@@ -197,5 +191,5 @@ pub fn survey(text: &[u8], room: u32) -> Surveyed
             }
         }
     };
-    Surveyed::Refused(refusal)
+    Surveyed::Refused(Refusal::Text(fault))
 }

@@ -5,14 +5,16 @@ use mathlib.Core.Path.{_≡_, ap, sym, _∙_, subst}
 use mathlib.Core.Logic.{inl, inr}
 use mathlib.Core.List.{List, [], _∷_, _++_, append-assoc}
 use native.Mathlib.Omega.{arith}
+use Rattle.plan.specs.Frames.{Frame, top, within, plug}
 use Rattle.plan.specs.Plan.{Plan, end, operator, token, block, _then_, labels}
+use Rattle.plan.proofs.Frames.{labels-plug, lefts, rights}
 use Rattle.plan.proofs.Plans.{labels-then}
 use Rattle.memory.specs.Memory.{start, close, ports, Absent, Distinct, Says}
 use Rattle.memory.proofs.Lists.{absent-join, distinct-join}
 use Rattle.memory.proofs.Ports.{close-absent, ports-absent, ports-distinct, ports-then, says-then, start-absent}
 use Rattle.memory.specs.Held.{BlockIn}
-use Rattle.hunt.specs.Frames.{Frame, top, within, plug, cell-of}
-use Rattle.hunt.proofs.Frames.{chain-plug, labels-plug, left, lefts, right, rights, says-around, says-plug, says-split}
+use Rattle.hunt.specs.Hunting.{cell-of}
+use Rattle.hunt.proofs.Frames.{chain-plug, left, right, says-around, says-plug, says-split}
 use Rattle.rewrites.specs.Rules.{at-end}
 use Rattle.rewrites.proofs.Splicing.{first-split, last-split}
 
@@ -20,7 +22,7 @@ use Rattle.rewrites.proofs.Splicing.{first-split, last-split}
 abbrev pub chain-of : (n : ℕ) → Plan ℕ → List ℕ
 chain-of n t = start n ∷ (ports t ++ close n ∷ [])
 
-pub record Gap (n : ℕ) (f : Frame) (X p : Plan ℕ) : Type 0 where
+pub record Gap (n : ℕ) (f : Frame ℕ) (X p : Plan ℕ) : Type 0 where
   pub before : List ℕ
   pub next : ℕ
   pub rest : List ℕ
@@ -29,7 +31,7 @@ pub record Gap (n : ℕ) (f : Frame) (X p : Plan ℕ) : Type 0 where
   pub labels-behind : List ℕ
   pub used : (z : Plan ℕ) → labels (plug f (X then (z then p))) ≡ labels-before ++ (labels z ++ labels-behind)
 
-pub gap : (n : ℕ) (f : Frame) (X p : Plan ℕ) → Gap n f X p
+pub gap : (n : ℕ) (f : Frame ℕ) (X p : Plan ℕ) → Gap n f X p
 gap n f X p =
     let s = cell-of n f in
     let l = last-split (start s) (ports X) in
@@ -51,7 +53,7 @@ gap n f X p =
     }
 
 -- another item there, which is said too
-module _ (text w : List ℕ) (f : Frame) (X p z : Plan ℕ) (h : Says text w (plug f (X then (z then p)))) where
+module _ (text w : List ℕ) (f : Frame ℕ) (X p z : Plan ℕ) (h : Says text w (plug f (X then (z then p)))) where
   pub gap-says : Says text w z
   gap-says = says-split text w z p (says-split text w X (z then p) (says-around text w f (X then (z then p)) h .1) .1) .0
 
@@ -84,11 +86,11 @@ then-block c b (operator d o p) q h = then-block c b p q h
 then-block c b (token d t p) q h = then-block c b p q h
 then-block c b (block d x p) q h = inr (inr (then-block c b p q h))
 
-plug-block : (c : ℕ) (b : Plan ℕ) (f : Frame) (q : Plan ℕ) → BlockIn c b q → BlockIn c b (plug f q)
+plug-block : (c : ℕ) (b : Plan ℕ) (f : Frame ℕ) (q : Plan ℕ) → BlockIn c b q → BlockIn c b (plug f q)
 unfolding plug
 plug-block c b top q h = h
 plug-block c b (within before d out after) q h =
     plug-block c b out (before then block d q after) (then-block c b before (block d q after) (inr (inl h)))
 
-pub gap-block : (c : ℕ) (b : Plan ℕ) (f : Frame) (X p : Plan ℕ) → BlockIn c b p → BlockIn c b (plug f (X then p))
+pub gap-block : (c : ℕ) (b : Plan ℕ) (f : Frame ℕ) (X p : Plan ℕ) → BlockIn c b p → BlockIn c b (plug f (X then p))
 gap-block c b f X p h = plug-block c b f (X then p) (then-block c b X p h)

@@ -6,17 +6,19 @@ use mathlib.Core.Path.{_≡_, refl, ap, sym, _∙_, subst}
 use mathlib.Core.List.{List, [], _∷_, _++_, append-assoc, append-nil}
 use native.Mathlib.Omega.{arith}
 use lib.ListN.{length, set}
+use Rattle.plan.specs.Frames.{Frame, within, plug}
 use Rattle.plan.specs.Plan.{Plan, end, operator, block, _then_, labels}
 use Rattle.plan.specs.declared.Operator.{Operator}
+use Rattle.plan.proofs.Frames.{labels-plug, lefts, rights}
 use Rattle.plan.proofs.Plans.{labels-then, then-end}
 use Rattle.memory.specs.Memory.{start, close, link, ports, Linked, Says, Below, Absent, Distinct, Shared, Holds, last-of}
 use Rattle.memory.proofs.Freeing.{distinct-swap, shared-free, shared-swap}
 use Rattle.memory.proofs.Lists.{absent-split, below-split, distinct-split, linked-beside}
 use Rattle.memory.proofs.Ports.{Loose, close-loose, last-loose, says-link, start-loose}
 use Rattle.memory.proofs.Sharing.{shared-distinct, shared-used}
-use Rattle.blocks.proofs.Starts.{below-ports}
-use Rattle.hunt.specs.Frames.{Frame, within, plug, cell-of}
-use Rattle.hunt.proofs.Frames.{cell-low, labels-plug, lefts, rights, says-around, says-split}
+use Rattle.memory.proofs.Ports.{below-ports}
+use Rattle.hunt.specs.Hunting.{cell-of}
+use Rattle.hunt.proofs.Frames.{cell-low, says-around, says-split}
 use Rattle.rewrites.specs.Rules.{at-end}
 use Rattle.rewrites.specs.Splices.{cut, put-in, released, unwrapped}
 use Rattle.rewrites.proofs.Gaps.{chain-absent, chain-distinct, chain-of, Gap, gap, gap-replaced, gap-says}
@@ -60,7 +62,7 @@ last-low : (n x : ℕ) (xs : List ℕ) → x ≤ n → Below n xs → last-of x 
 last-low n x [] h k = h
 last-low n x (y ∷ ys) h k = last-low n y ys (let low = k .0 in omega arith) (k .1)
 
-module _ (text : List ℕ) (n : ℕ) (w : List ℕ) (free : ℕ) (f : Frame) (X q : Plan ℕ) (more : List ℕ)
+module _ (text : List ℕ) (n : ℕ) (w : List ℕ) (free : ℕ) (f : Frame ℕ) (X q : Plan ℕ) (more : List ℕ)
     (h : Said text n w free (plug f (X then q)) more) where
   pub end-loose : Loose w (at-end n f X)
   end-loose =
@@ -92,7 +94,7 @@ module _ (text : List ℕ) (n : ℕ) (w : List ℕ) (free : ℕ) (f : Frame) (X 
 
 -- the four moves
 
-module _ (n : ℕ) (f : Frame) (X p : Plan ℕ) where
+module _ (n : ℕ) (f : Frame ℕ) (X p : Plan ℕ) where
   abbrev place : Gap n f X p
   place = gap n f X p
 

@@ -1,38 +1,31 @@
 -- The four rules, once the operator is out of the plan: each is one or two of the moves.
-use Prim.Native.Nat.{ℕ, _+_}
+use Prim.Native.Nat.{ℕ}
 use mathlib.Core.Path.{_≡_, refl, ap, sym, _∙_, subst}
 use mathlib.Core.Logic.{inl}
-use mathlib.Core.List.{List, [], _∷_, _++_}
+use mathlib.Core.List.{List, _∷_, _++_}
+use Rattle.plan.specs.Frames.{Frame, within, plug}
 use Rattle.plan.specs.Plan.{Plan, end, operator, block, _then_, bare, labels, relabel}
 use Rattle.plan.specs.declared.Operator.{Operator}
+use Rattle.plan.proofs.Frames.{bare-plug}
 use Rattle.plan.proofs.Plans.{relabel-then, then-assoc, then-end}
 use Rattle.memory.specs.Held.{BlockIn}
 use Rattle.memory.specs.Memory.{start, close, ports, Holds, last-of}
-use Rattle.memory.proofs.Lists.{below-split, distinct-split, last-append}
-use Rattle.memory.proofs.Ports.{ports-then}
+use Rattle.memory.proofs.Lists.{below-split, distinct-split}
 use Rattle.blocks.specs.Blocks.{Alone, first-free, freed}
 use Rattle.blocks.proofs.Freed.{freed-holds}
 use Rattle.copier.specs.Copying.{CopyHeld}
-use Rattle.hunt.specs.Frames.{Frame, within, plug}
-use Rattle.hunt.proofs.Frames.{bare-plug}
+use Rattle.hunt.proofs.Window.{ends-in-block}
 use Rattle.rewrites.specs.Rules.{at-end}
 use Rattle.rewrites.specs.Splices.{cut, moved, put-in, released, unwrapped}
 use Rattle.rewrites.proofs.Gaps.{gap-block}
 use Rattle.rewrites.proofs.Moving.{HoldsBeside, open-up, put-back, remove, take-out}
-
--- a sequence that ends in a block ends at the block's close
-pub ends-in-block : (x : ℕ) (Y : Plan ℕ) (m : ℕ) (A : Plan ℕ) → last-of x (ports (Y then block m A end)) ≡ close m
-unfolding ports
-ends-in-block x Y m A =
-    ap (last-of x) (ports-then Y (block m A end)) ∙ last-append x (start m) (ports Y) (ports A ++ close m ∷ [])
-    ∙ last-append (start m) (close m) (ports A) []
 
 -- a block and what is behind it, told apart
 pub block-then : (Y : Plan ℕ) (m : ℕ) (A q : Plan ℕ) → (Y then block m A end) then q ≡ Y then block m A q
 unfolding _then_
 block-then Y m A q = then-assoc Y (block m A end) q
 
-module _ (n : ℕ) (f : Frame) (X : Plan ℕ) where
+module _ (n : ℕ) (f : Frame ℕ) (X : Plan ℕ) where
   abbrev at : ℕ
   at = at-end n f X
 

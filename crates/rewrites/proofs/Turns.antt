@@ -6,7 +6,9 @@ use mathlib.Core.List.{List, _∷_, _++_}
 use native.Mathlib.Omega.{arith}
 use Rattle.kinds.specs.Limits.{cellLimit}
 use Rattle.kinds.specs.declared.Cell.{Cell}
+use Rattle.plan.specs.Frames.{Frame, within, plug}
 use Rattle.plan.specs.Plan.{Plan, end, block, _then_, cells, labels}
+use Rattle.plan.proofs.Frames.{cells-plug}
 use Rattle.plan.proofs.Plans.{cells-then, then-end}
 use Rattle.memory.specs.Held.{HeldIn, held-numbers}
 use Rattle.memory.specs.Memory.{start, close, ports, whole, Holds, last-of}
@@ -18,8 +20,6 @@ use Rattle.blocks.specs.Blocks.{Alone, Leaves, first-free, freed}
 use Rattle.blocks.proofs.Inside.{block-alone}
 use Rattle.copier.specs.Copying.{Copies, Copyable, CopyMade}
 use Rattle.copier.specs.declared.Copied.{Copied}
-use Rattle.hunt.specs.Frames.{Frame, within, plug}
-use Rattle.hunt.proofs.Frames.{cells-plug}
 use Rattle.rewrites.specs.Rules.{DropBlock, OneBlock, RuleA, RuleB, RuleC, RuleD, TwoBlocks, at-end}
 use Rattle.rewrites.specs.Splices.{Spliced, cut, moved, put-in, unwrapped}
 use Rattle.rewrites.proofs.Chained.{held-after, same-cells, splice-two, spliced-lent}
@@ -27,12 +27,12 @@ use Rattle.rewrites.proofs.Moving.{end-low, held-said}
 use Rattle.rewrites.proofs.Ruling.{applied, block-then, doubled, dropped, enclosed, out-alone, there}
 
 -- a block of a plan that is held is linked in itself
-pub block-there : (text : List ℕ) (n : ℕ) (w : List ℕ) (free : ℕ) (f : Frame) (X : Plan ℕ) (m : ℕ) (A p : Plan ℕ) → Holds text n w free (plug f (X then block m A p)) → Alone n w m A
+pub block-there : (text : List ℕ) (n : ℕ) (w : List ℕ) (free : ℕ) (f : Frame ℕ) (X : Plan ℕ) (m : ℕ) (A p : Plan ℕ) → Holds text n w free (plug f (X then block m A p)) → Alone n w m A
 block-there text n w free f X m A p h = block-alone h (there n f X m A p)
 
 -- two blocks
 
-newer-there : (text : List ℕ) (n : ℕ) (w : List ℕ) (free : ℕ) (f : Frame) (X : Plan ℕ) (l : ℕ) (B : Plan ℕ) (m : ℕ) (A p : Plan ℕ)
+newer-there : (text : List ℕ) (n : ℕ) (w : List ℕ) (free : ℕ) (f : Frame ℕ) (X : Plan ℕ) (l : ℕ) (B : Plan ℕ) (m : ℕ) (A p : Plan ℕ)
     → Holds text n w free (plug f (X then block l B (block m A p))) → Alone n w m A
 newer-there text n w free f X l B m A p h =
     block-there text n w free f (X then block l B end) m A p (subst (λ q. Holds text n w free (plug f q)) (sym (block-then X l B (block m A p))) h)
@@ -91,7 +91,7 @@ module _ {m : List ℕ} {h : Held} {m′ : List ℕ} {h′ : Held} (before older
 
 module _ {text m : List ℕ} {h : Held} {newer : ℕ} (k : OneBlock text m h newer) where
   -- the copy finds room, since the operator's cell is free already
-  copy-room : (f : Frame) (X A p : Plan ℕ) → cells (plug f (X then block newer A (block newer A p))) ≤ h .outer .0
+  copy-room : (f : Frame ℕ) (X A p : Plan ℕ) → cells (plug f (X then block newer A (block newer A p))) ≤ h .outer .0
       → cells (plug f (X then block newer A p)) + (1 + cells A) ≤ h .outer .0
   unfolding cells
   copy-room f X A p room =
@@ -99,7 +99,7 @@ module _ {text m : List ℕ} {h : Held} {newer : ℕ} (k : OneBlock text m h new
       let q′ = X then block newer A (block newer A p) in
       omega (arith, cells-plug f q q′, cells-then X (block newer A p), cells-then X (block newer A (block newer A p)))
 
-  copies : (f : Frame) (X A p : Plan ℕ) → HeldIn text m h (plug f (X then block newer A p)) → cells (plug f (X then block newer A (block newer A p))) ≤ h .outer .0
+  copies : (f : Frame ℕ) (X A p : Plan ℕ) → HeldIn text m h (plug f (X then block newer A p)) → cells (plug f (X then block newer A (block newer A p))) ≤ h .outer .0
       → Copies text m h newer (plug f (X then block newer A p)) A
   copies f X A p held room = record { held = held; found = there (h .outer .0) f X newer A p; room = copy-room f X A p room }
 
@@ -163,7 +163,7 @@ module _ {m : List ℕ} {h : Held} {before newer : ℕ} (k : DropBlock m h befor
 -- the block once it is out of the plan
 module _ {m : List ℕ} {h : Held} (before newer tail : ℕ) {m₁ : List ℕ} {h₁ : Held} (e : tail ≡ close newer)
     (s : Spliced m h m₁ h₁ (cut (held-numbers m h) before tail) (h .free .0)) where
-  out-there : (text : List ℕ) (f : Frame) (X A p : Plan ℕ) → before ≡ at-end (h .outer .0) f X → HeldIn text m h (plug f (X then block newer A p))
+  out-there : (text : List ℕ) (f : Frame ℕ) (X A p : Plan ℕ) → before ≡ at-end (h .outer .0) f X → HeldIn text m h (plug f (X then block newer A p))
       → Alone (h₁ .outer .0) (held-numbers m₁ h₁) newer A
   out-there text f X A p at held =
       subst (λ v. Alone (h₁ .outer .0) v newer A) (sym (s .numbers))

@@ -3,24 +3,23 @@
 use Prim.Native.Nat.{ℕ, _≤_}
 use mathlib.Core.Path.{_≡_}
 use mathlib.Core.List.{List}
-use Rattle.plan.specs.Plan.{Plan, block, _then_, bare, cells}
-use Rattle.memory.specs.Held.{HeldIn}
-use Rattle.memory.specs.Memory.{start, ports, last-of}
+use Rattle.plan.specs.Frames.{Frame, plug}
+use Rattle.plan.specs.Plan.{Plan, block, _then_, cells}
+use Rattle.memory.specs.Held.{HeldIn, Rewritten}
 use Rattle.memory.specs.Model.{Lent}
 use Rattle.memory.specs.declared.Held.{Held}
-use Rattle.hunt.specs.Frames.{Frame, plug, cell-of}
-use Rattle.hunt.specs.Hunting.{Stands}
+use Rattle.hunt.specs.Hunting.{Stands, cell-of, port-behind}
 use Rattle.hunt.specs.declared.Spot.{Spot}
 
 -- the port that links to what stands behind X
-abbrev pub at-end : (n : ℕ) → Frame → Plan ℕ → ℕ
-at-end n f X = last-of (start (cell-of n f)) (ports X)
+abbrev pub at-end : (n : ℕ) → Frame ℕ → Plan ℕ → ℕ
+at-end n f X = port-behind (cell-of n f) X
 
 -- the memory holds a plan with two blocks behind the port `before`
 pub record TwoBlocks (m : List ℕ) (h : Held) (before older newer : ℕ) : Type 0 where
   pub lent : Lent (h .outer .0) m
   pub text : List ℕ
-  pub frame : Frame
+  pub frame : Frame ℕ
   pub front : Plan ℕ
   pub first : Plan ℕ
   pub second : Plan ℕ
@@ -31,42 +30,36 @@ pub record TwoBlocks (m : List ℕ) (h : Held) (before older newer : ℕ) : Type
 -- `[B][A]` becomes A, then `[B]`
 abbrev pub RuleA : (m : List ℕ) → Held → (m′ : List ℕ) → Held → (before older newer : ℕ) → Type 0
 RuleA m h m′ h′ before older newer =
-    (text : List ℕ) (f : Frame) (X B A p : Plan ℕ) → before ≡ at-end (h .outer .0) f X
+    (text : List ℕ) (f : Frame ℕ) (X B A p : Plan ℕ) → before ≡ at-end (h .outer .0) f X
     → HeldIn text m h (plug f (X then block older B (block newer A p))) → HeldIn text m′ h′ (plug f (X then (A then block older B p)))
 
 -- `[B][A]` becomes `[[B]A]`
 abbrev pub RuleB : (m : List ℕ) → Held → (m′ : List ℕ) → Held → (before older newer : ℕ) → Type 0
 RuleB m h m′ h′ before older newer =
-    (text : List ℕ) (f : Frame) (X B A p : Plan ℕ) → before ≡ at-end (h .outer .0) f X
+    (text : List ℕ) (f : Frame ℕ) (X B A p : Plan ℕ) → before ≡ at-end (h .outer .0) f X
     → HeldIn text m h (plug f (X then block older B (block newer A p))) → HeldIn text m′ h′ (plug f (X then block newer (block older B A) p))
 
 -- the memory holds a plan with a block, and there is room for that block once more
 pub record OneBlock (text m : List ℕ) (h : Held) (newer : ℕ) : Type 0 where
   pub lent : Lent (h .outer .0) m
-  pub frame : Frame
+  pub frame : Frame ℕ
   pub front : Plan ℕ
   pub contents : Plan ℕ
   pub behind : Plan ℕ
   pub held : HeldIn text m h (plug frame (front then block newer contents behind))
   pub room : cells (plug frame (front then block newer contents (block newer contents behind))) ≤ h .outer .0
 
--- the memory holds the plan, but for its cells
-pub record Rewritten (text m : List ℕ) (h : Held) (p : Plan ℕ) : Type 0 where
-  pub plan : Plan ℕ
-  pub alike : bare plan ≡ bare p
-  pub held : HeldIn text m h plan
-
 -- `[A]` becomes `[A][A]`
 abbrev pub RuleC : (text m : List ℕ) → Held → (m′ : List ℕ) → Held → (newer : ℕ) → Type 0
 RuleC text m h m′ h′ newer =
-    (f : Frame) (X A p : Plan ℕ) → HeldIn text m h (plug f (X then block newer A p))
+    (f : Frame ℕ) (X A p : Plan ℕ) → HeldIn text m h (plug f (X then block newer A p))
     → cells (plug f (X then block newer A (block newer A p))) ≤ h .outer .0 → Rewritten text m′ h′ (plug f (X then block newer A (block newer A p)))
 
 -- the memory holds a plan with a block behind the port `before`
 pub record DropBlock (m : List ℕ) (h : Held) (before newer : ℕ) : Type 0 where
   pub lent : Lent (h .outer .0) m
   pub text : List ℕ
-  pub frame : Frame
+  pub frame : Frame ℕ
   pub front : Plan ℕ
   pub contents : Plan ℕ
   pub behind : Plan ℕ
@@ -76,18 +69,18 @@ pub record DropBlock (m : List ℕ) (h : Held) (before newer : ℕ) : Type 0 whe
 -- `[A]` becomes nothing
 abbrev pub RuleD : (m : List ℕ) → Held → (m′ : List ℕ) → Held → (before newer : ℕ) → Type 0
 RuleD m h m′ h′ before newer =
-    (text : List ℕ) (f : Frame) (X A p : Plan ℕ) → before ≡ at-end (h .outer .0) f X
+    (text : List ℕ) (f : Frame ℕ) (X A p : Plan ℕ) → before ≡ at-end (h .outer .0) f X
     → HeldIn text m h (plug f (X then block newer A p)) → HeldIn text m′ h′ (plug f (X then p))
 
 -- the memory holds the plan with q in the frame, the rewrite at the spot gives q′ there, and that finds room
-pub record Rewrites (text m : List ℕ) (h : Held) (spot : Spot) (f : Frame) (q q′ : Plan ℕ) : Type 0 where
+pub record Rewrites (text m : List ℕ) (h : Held) (spot : Spot) (f : Frame ℕ) (q q′ : Plan ℕ) : Type 0 where
   pub held : HeldIn text m h (plug f q)
   pub stands : Stands spot (cell-of (h .outer .0) f) q q′
   pub room : cells (plug f q′) ≤ h .outer .0
 
 pub record Rewritable (text m : List ℕ) (h : Held) (spot : Spot) : Type 0 where
   pub lent : Lent (h .outer .0) m
-  pub frame : Frame
+  pub frame : Frame ℕ
   pub before : Plan ℕ
   pub after : Plan ℕ
   pub rewrites : Rewrites text m h spot frame before after

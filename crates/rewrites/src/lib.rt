@@ -3,13 +3,13 @@
 // item is copied but by c, and a cell that leaves the plan is free at once.
 ghost use mathlib.Core.Path.{_≡_};
 ghost use Prim.Native.Nat.{ℕ, _≤_, _<_};
+ghost use Rattle.plan.specs.Frames.{Frame, plug};
 ghost use Rattle.plan.specs.Plan.{Plan};
-ghost use Rattle.memory.specs.Held.{held-numbers};
+ghost use Rattle.memory.specs.Held.{Rewritten, held-numbers};
 ghost use Rattle.memory.specs.Memory.{start, close};
 ghost use Rattle.memory.specs.Model.{Aside, Lent};
-ghost use Rattle.hunt.specs.Frames.{Frame, plug};
 ghost use Rattle.rewrites.specs.Splices.{Spliced, cut, moved, put-in, released, unwrapped};
-ghost use Rattle.rewrites.specs.Rules.{DropBlock, OneBlock, Rewritable, Rewrites, Rewritten, RuleA, RuleB, RuleC, RuleD, TwoBlocks};
+ghost use Rattle.rewrites.specs.Rules.{DropBlock, OneBlock, Rewritable, Rewrites, RuleA, RuleB, RuleC, RuleD, TwoBlocks};
 use blocks::free_block;
 use blocks::last_port;
 use copier::copy_block;
@@ -17,8 +17,10 @@ use hunt::Spot;
 use kinds::Cell;
 use memory::Held;
 use memory::Port;
+use memory::keep_cell;
 use memory::link_of;
 use memory::set_link;
+use plan::Operator;
 
 // Lets a port link to what stands behind another one: the ports between them, and that one, are out of the chain.
 fn cut(memory: &mut [u32], held: Held, after: Port, last: Port) -> Held
@@ -64,9 +66,9 @@ fn release(memory: &mut [u32], held: Held, cell: Cell) -> Held
     ensures { λ r. ⌜ Spliced (now (memory .entry)) held (now (memory .exit)) r (released (held-numbers (now (memory .entry)) held) (held .free .0) (cell .0)) (cell .0) ⌝ }
 {
     let outer = held.outer;
-    let begin = held.first;
+    let first = held.first;
     let free = held.free;
-    let first = set_link(memory, outer, begin, Port::start(cell), Port(free.0));
+    keep_cell(memory, outer, Port::start(cell), free);
     Held {
         outer,
         first,
@@ -154,22 +156,19 @@ fn rule_d(memory: &mut [u32], held: Held, before: Port, newer: Cell) -> Held
 // Makes the rewrite of a ready operator: the memory then holds what the rule gives.
 pub fn rewrite(text: &[u8], memory: &mut [u32], held: Held, spot: Spot) -> Held
     requires { ⌜ Rewritable (now text) (now memory) held spot ⌝ }
-    ensures rewritten { λ r. ⌜ ((f : Frame) (q q′ : Plan ℕ) → Rewrites (now (text .entry)) (now (memory .entry)) held spot f q q′ → Rewritten (now (text .entry)) (now (memory .exit)) r (plug f q′)) ⌝ }
+    ensures rewritten { λ r. ⌜ ((f : Frame ℕ) (q q′ : Plan ℕ) → Rewrites (now (text .entry)) (now (memory .entry)) held spot f q q′ → Rewritten (now (text .entry)) (now (memory .exit)) r (plug f q′)) ⌝ }
     ensures same_cells { λ r. ⌜ r .outer ≡ held .outer ⌝ }
     ensures aside { λ r. ⌜ Aside (held .outer .0) (now (memory .entry)) (now (memory .exit)) ⌝ }
 {
     let before = spot.before;
     let older = spot.older;
     let newer = spot.newer;
+    let which = spot.which;
     let rest = remove_operator(memory, held, newer, spot.operator);
-    if spot.kind == 0 {
-        return rule_a(memory, rest, before, older, newer);
+    match which {
+        Operator::A => rule_a(memory, rest, before, older, newer),
+        Operator::B => rule_b(memory, rest, before, older, newer),
+        Operator::C => rule_c(text, memory, rest, newer),
+        Operator::D => rule_d(memory, rest, before, newer),
     }
-    if spot.kind == 1 {
-        return rule_b(memory, rest, before, older, newer);
-    }
-    if spot.kind == 2 {
-        return rule_c(text, memory, rest, newer);
-    }
-    rule_d(memory, rest, before, newer)
 }

@@ -10,8 +10,7 @@ use telling::tell_printed;
 
 const QUOTA: u32 = 10_000;
 
-// Four numbers are lent for a cell.
-const MEMORY: usize = 4 * Cell::LIMIT;
+const MEMORY: usize = Cell::NUMBERS * Cell::LIMIT;
 
 // Each of the two text buffers.
 const TEXT: usize = 65_536;

@@ -1,29 +1,32 @@
 -- What a survey says of an acceptable text is what CHECK and TIDY answer.
 use Prim.Native.Nat.{ℕ, _≤_, _<_}
 use mathlib.Core.Path.{_≡_, refl, ap, ap₂, sym, _∙_}
-use mathlib.Core.Bool.{false}
 use mathlib.Core.List.{List}
 use native.Mathlib.Omega.{arith}
 use lib.ListN.{length}
 use borrow.Author.Tests.{lt-ltb, le-ltb}
 use Rattle.kinds.specs.Limits.{cellLimit, textLimit, tokenLimit}
-use Rattle.plan.specs.Plan.{cells, print}
-use Rattle.plan.specs.Reading.{Reading, PLAN, REFUSED, read, without-blanks}
+use Rattle.plan.specs.Plan.{Plan, cells, print}
+use Rattle.plan.specs.Pieces.{Shows, pieces}
+use Rattle.plan.specs.Reading.{Reading, PLAN, REFUSED, read}
 use Rattle.plan.specs.Services.{GIVES, REFUSES, accept, answer-of, as-read, check, reads, standard, tidy, write}
 use Rattle.plan.specs.declared.Answer.the-variants.{Read, Refused}
 use Rattle.plan.specs.declared.Refusal.{Refusal}
-use Rattle.plan.specs.declared.Refusal.the-variants.{BadArena, OutShort, TooLong}
+use Rattle.plan.specs.declared.Refusal.the-variants.{Text, BadArena, OutShort}
+use Rattle.plan.specs.declared.TextFault.the-variants.{TooLong}
 use Rattle.plan.proofs.Answers.{write-fits, write-short}
 use Rattle.plan.proofs.ReadBack.{read-accepted}
 use Rattle.plan.proofs.Slots.{accepted-text}
 use Rattle.reader.specs.Counting.{surveyed}
-use Rattle.text.specs.Tidy.{written}
+use Rattle.pieces.specs.Written.{put-at}
+use Rattle.pieces.proofs.Putting.{put-front}
+use Rattle.items.specs.Walk.{Tidies as Tidying}
 use Rattle.services.specs.Calls.{Checks, Tidies}
 use Rattle.reader.specs.declared.Surveyed.{Surveyed}
 use Rattle.reader.specs.declared.Surveyed.the-variants.{Accepted, Refused as RefusedText}
 
 module _ (n : ℕ) (text : List ℕ) where
-  pub too-long : textLimit < length text → RefusedText TooLong ≡ surveyed (accept standard n text)
+  pub too-long : textLimit < length text → RefusedText (Text TooLong) ≡ surveyed (accept standard n text)
   unfolding accept surveyed
   too-long h = rw (lt-ltb textLimit (length text) h)
 
@@ -46,19 +49,25 @@ module _ (text : List ℕ) where
         go (REFUSED q) h = ap REFUSES (let same : q ≡ r = cc in same)
         go (PLAN p) h = absurd (let z : _≡_ {A = ℕ} 0 1 = cc in omega arith)
 
-    reads-accepted : {c l : ℕ} → s ≡ Accepted c l
-        → (reads standard text ≡ GIVES (Read c l) (without-blanks false text)) × (length (without-blanks false text) ≡ l)
+    -- the plan that an acceptable text reads as
+    record Found (c l : ℕ) : Type 0 where
+      plan : Plan ℕ
+      read-as : read tokenLimit cellLimit text ≡ PLAN plan
+      short : length text ≤ textLimit
+      gives : reads standard text ≡ GIVES (Read c l) (print plan)
+      long : length (print plan) ≡ l
+
+    reads-accepted : {c l : ℕ} → s ≡ Accepted c l → Found c l
     unfolding reads as-read surveyed
     reads-accepted {c} {l} e = go (accept standard cellLimit text) refl (sym found ∙ e)
       where
-        go : (x : Reading) → accept standard cellLimit text ≡ x → surveyed x ≡ Accepted c l
-            → (as-read x ≡ GIVES (Read c l) (without-blanks false text)) × (length (without-blanks false text) ≡ l)
+        go : (x : Reading) → accept standard cellLimit text ≡ x → surveyed x ≡ Accepted c l → Found c l
         go (REFUSED q) a h = absurd (let z : _≡_ {A = ℕ} 0 1 = cc in omega arith)
         go (PLAN p) a h =
-            let printed = read-accepted tokenLimit cellLimit text (accepted-text standard cellLimit text a .reads) .printed in
+            let ok = accepted-text standard cellLimit text a in
             let counted : cells p ≡ c = cc in
             let sized : length (print p) ≡ l = cc in
-            (ap₂ GIVES (ap₂ Read counted sized) printed, ap length (sym printed) ∙ sized)
+            record { plan = p; read-as = ok .reads; short = ok .short; gives = rw a (ap (λ r. GIVES r (print p)) (ap₂ Read counted sized)); long = sized }
 
     pub check-refused : {r : Refusal} → s ≡ RefusedText r → Checks text (Refused r)
     unfolding check answer-of
@@ -66,29 +75,33 @@ module _ (text : List ℕ) where
 
     pub check-accepted : {c l : ℕ} → s ≡ Accepted c l → Checks text (Read c l)
     unfolding check answer-of
-    check-accepted e = record { answer = rw (reads-accepted e .0) }
+    check-accepted e = record { answer = rw (reads-accepted e .gives) }
 
     pub tidy-refused : {r : Refusal} (out : List ℕ) → s ≡ RefusedText r
         → Tidies text out (Refused r) out
     unfolding tidy write
     tidy-refused out e = record { answer = rw (reads-refused e); output = rw (reads-refused e) }
 
-    -- a text that is found acceptable, and its length without blanks
+    -- a text that is found acceptable, and an output
     module _ {c l : ℕ} (out : List ℕ) (e : s ≡ Accepted c l) where
-      pub tidy-fits : l ≤ length out → length (without-blanks false text) ≤ length out
-      tidy-fits h = omega (arith, reads-accepted e .1)
+      pub tidy-fits : l ≤ length out → Tidying text out 0
+      tidy-fits h =
+          let r = reads-accepted e in
+          record { short = r .short; plan = r .plan; shows = read-accepted tokenLimit cellLimit text (r .read-as) .shows; room = omega (arith, r .long) }
 
       pub tidy-short : length out < l
           → Tidies text out (Refused (OutShort l)) out
       unfolding tidy
       tidy-short h =
           let r = reads-accepted e in
-          let w = write-short (Read c l) (without-blanks false text) out (omega (arith, r .1)) in
-          record { answer = rw (r .0, w) (ap (λ k. Refused (OutShort k)) (sym (r .1))); output = rw (r .0, w) }
+          let w = write-short (Read c l) (print (r .plan)) out (omega (arith, r .long)) in
+          record { answer = rw (r .gives, w) (ap (λ k. Refused (OutShort k)) (sym (r .long))); output = rw (r .gives, w) }
 
-      pub tidy-written : {out′ : List ℕ} → l ≤ length out → out′ ≡ written (without-blanks false text) out → Tidies text out (Read c l) out′
+      pub tidy-written : {out′ : List ℕ} → l ≤ length out → ((p : Plan ℕ) → Shows tokenLimit 0 text (pieces p) → out′ ≡ put-at out 0 (print p))
+          → Tidies text out (Read c l) out′
       unfolding tidy
       tidy-written h is =
           let r = reads-accepted e in
-          let w = write-fits (Read c l) (without-blanks false text) out (omega (arith, r .1)) in
-          record { answer = rw (r .0, w); output = rw (r .0, w) is }
+          let w = write-fits (Read c l) (print (r .plan)) out (omega (arith, r .long)) in
+          let there = is (r .plan) (read-accepted tokenLimit cellLimit text (r .read-as) .shows) in
+          record { answer = rw (r .gives, w); output = rw (r .gives, w) (there ∙ put-front (print (r .plan)) out) }

@@ -1,12 +1,12 @@
 -- RUN, part by part: what the run in the memory ended with is what the definition's run of the accepted plan gives, since no run
 -- looks at a label; it is never too long to be printed; and what is printed is what the definition writes.
-use Prim.Native.Nat.{ℕ, _+_, _/_, _≤_, _<_}
+use Prim.Native.Nat.{ℕ, _/_, _≤_, _<_}
 use mathlib.Core.Path.{_≡_, refl, ap, ap₂, sym, _∙_, subst}
-use mathlib.Core.List.{List, _++_}
+use mathlib.Core.List.{List}
 use native.Mathlib.Omega.{arith}
 use native.Mathlib.Nat.{le-trans, mul-le-mul-left}
-use lib.ListN.{length, drop, replicate}
-use Rattle.kinds.specs.Limits.{cellLimit, tokenLimit}
+use lib.ListN.{length, replicate}
+use Rattle.kinds.specs.Limits.{cellLimit, tokenLimit, cellNumbers}
 use Rattle.kinds.specs.declared.Cell.{Cell}
 use Rattle.plan.specs.Plan.{Plan, bare, cells, print}
 use Rattle.plan.specs.Reading.{Reading, PLAN, REFUSED, read}
@@ -24,7 +24,9 @@ use Rattle.plan.proofs.Slots.{accepted-text}
 use Rattle.reader.specs.Counting.{surveyed}
 use Rattle.reader.specs.declared.Surveyed.{Surveyed}
 use Rattle.reader.specs.declared.Surveyed.the-variants.{Accepted, Refused as RefusedText}
-use Rattle.memory.specs.Held.{HeldIn}
+use Rattle.pieces.specs.Written.{put-at}
+use Rattle.pieces.proofs.Putting.{put-front}
+use Rattle.memory.specs.Held.{HeldIn, Rewritten}
 use Rattle.memory.specs.Model.{Aside, Lent}
 use Rattle.memory.specs.Pieces.{PrintsWithin, printLimit}
 use Rattle.memory.specs.declared.Held.{Held}
@@ -37,12 +39,12 @@ use Rattle.services.specs.Writing.{Acceptable, Printable, Writes}
 -- printing
 
 module _ {text m : List ℕ} {e : Ended} (k : Printable text m e) where
-  pub prints-at-most : PrintsWithin printLimit text m (e .held)
-  prints-at-most = record { lent = k .lent; plan = k .plan; held = k .sized .held; fits = k .fits }
+  pub prints-at-most : PrintsWithin 0 printLimit text m (e .held)
+  prints-at-most = record { lent = k .lent; plan = k .plan; held = k .sized .held; fits = omega (arith, k .fits) }
 
   -- the length as `printed_length` finds it
   module _ {long : ℕ} (is : (t : Plan ℕ) → HeldIn text m (e .held) t → long ≡ length (print t)) (out : List ℕ) where
-    pub prints-in : long ≤ length out → PrintsWithin (length out) text m (e .held)
+    pub prints-in : long ≤ length out → PrintsWithin 0 (length out) text m (e .held)
     prints-in h = record { lent = k .lent; plan = k .plan; held = k .sized .held; fits = let size = is (k .plan) (k .sized .held) in omega arith }
 
 module _ {text m : List ℕ} (e : Ended) {long : ℕ} (is : (t : Plan ℕ) → HeldIn text m (e .held) t → long ≡ length (print t)) (out : List ℕ) where
@@ -54,13 +56,13 @@ module _ {text m : List ℕ} (e : Ended) {long : ℕ} (is : (t : Plan ℕ) → H
       let w = write-short (Ran (e .ending) (e .steps) (cells t) (length (print t))) (print t) out (omega arith) in
       record { answer = rw w (ap (λ k. Refused (OutShort k)) size); output = rw w }
 
-  pub writes-all : {out′ : List ℕ} → long ≤ length out → ((t : Plan ℕ) → HeldIn text m (e .held) t → out′ ≡ print t ++ drop (length (print t)) out)
+  pub writes-all : {out′ : List ℕ} → long ≤ length out → ((t : Plan ℕ) → HeldIn text m (e .held) t → out′ ≡ put-at out 0 (print t))
       → (t : Plan ℕ) → Sized text m (e .held) (e .size) t → Writes (as-run (RAN (e .ending) (e .steps) t)) out (Ran (e .ending) (e .steps) (e .size) long) out′
   unfolding as-run
   writes-all h prints t s =
       let size = is t (s .held) in
       let w = write-fits (Ran (e .ending) (e .steps) (cells t) (length (print t))) (print t) out (omega arith) in
-      record { answer = rw w (ap₂ (Ran (e .ending) (e .steps)) (s .sized) size); output = rw w (prints t (s .held)) }
+      record { answer = rw w (ap₂ (Ran (e .ending) (e .steps)) (s .sized) size); output = rw w (prints t (s .held) ∙ put-front (print t) out) }
 
 -- the run of the plan that was built is that of the plan that was read
 
@@ -84,19 +86,19 @@ module _ {text m : List ℕ} (outer : Cell) {size : ℕ} (k : Acceptable text m 
   n = outer .0
 
   -- what `build_plan` built
-  module _ (m₁ : List ℕ) (h : Held) (built : (p : Plan ℕ) → read tokenLimit n text ≡ PLAN p → (t : Plan ℕ) × (bare t ≡ bare p) × HeldIn text m₁ h t)
+  module _ (m₁ : List ℕ) (h : Held) (built : (p : Plan ℕ) → read tokenLimit n text ≡ PLAN p → Rewritten text m₁ h p)
       (kept : h .outer ≡ outer) (aside : Aside n m m₁) where
     cell : h .outer .0 ≡ n
     cell = ap (λ (c : Cell). c .0) kept
 
     plan₁ : Plan ℕ
-    plan₁ = built (k .plan) (k .reads) .0
+    plan₁ = built (k .plan) (k .reads) .plan
 
     sized₁ : Sized text m₁ h size plan₁
     unfolding plan₁
     sized₁ =
         let b = built (k .plan) (k .reads) in
-        record { held = b .2; sized = k .sized ∙ sym (cells-relabel (λ l. tt) (k .plan)) ∙ ap cells (sym (b .1)) ∙ cells-relabel (λ l. tt) (b .0) }
+        record { held = b .held; sized = k .sized ∙ sym (cells-relabel (λ l. tt) (k .plan)) ∙ ap cells (sym (b .alike)) ∙ cells-relabel (λ l. tt) (b .plan) }
 
     pub built-runnable : Runnable text m₁ h size
     built-runnable = record { lent = subst (λ c. Lent c m₁) (sym cell) (lent-kept (k .lent) (aside .as-long)); plan = plan₁; sized = sized₁ }
@@ -112,7 +114,7 @@ module _ {text m : List ℕ} (outer : Cell) {size : ℕ} (k : Acceptable text m 
       the-run =
           same-run n quota (k .plan) e (end-plan .plan)
           (subst (λ c. run-plan c quota (bare (k .plan)) ≡ RAN (e .ending) (e .steps) (bare (end-plan .plan))) cell
-          (subst (λ x. run-plan (h .outer .0) quota x ≡ RAN (e .ending) (e .steps) (bare (end-plan .plan))) (built (k .plan) (k .reads) .1) (end-plan .runs)))
+          (subst (λ x. run-plan (h .outer .0) quota x ≡ RAN (e .ending) (e .steps) (bare (end-plan .plan))) (built (k .plan) (k .reads) .alike) (end-plan .runs)))
 
       printed-same : print (the-run .read-plan) ≡ print (end-plan .plan)
       printed-same = sym (print-relabel (λ l. tt) (the-run .read-plan)) ∙ ap print (the-run .alike) ∙ print-relabel (λ l. tt) (end-plan .plan)
@@ -148,35 +150,35 @@ module _ {text m : List ℕ} (outer : Cell) {size : ℕ} (k : Acceptable text m 
 
 -- a text that was looked over, with a quarter of the memory's length in cells
 
-module _ (text m : List ℕ) {s : Surveyed} (found : s ≡ surveyed (accept standard (length m / 4) text)) where
-  pub writes-refusal : {r : Refusal} (quota : ℕ) (out : List ℕ) → s ≡ RefusedText r → Writes (runs standard (length m / 4) quota text) out (Refused r) out
+module _ (text m : List ℕ) {s : Surveyed} (found : s ≡ surveyed (accept standard (length m / cellNumbers) text)) where
+  pub writes-refusal : {r : Refusal} (quota : ℕ) (out : List ℕ) → s ≡ RefusedText r → Writes (runs standard (length m / cellNumbers) quota text) out (Refused r) out
   unfolding runs run-read surveyed write
-  writes-refusal {r} quota out e = go (accept standard (length m / 4) text) (sym found ∙ e)
+  writes-refusal {r} quota out e = go (accept standard (length m / cellNumbers) text) (sym found ∙ e)
     where
-      go : (x : Reading) → surveyed x ≡ RefusedText r → Writes (run-read (length m / 4) quota x) out (Refused r) out
+      go : (x : Reading) → surveyed x ≡ RefusedText r → Writes (run-read (length m / cellNumbers) quota x) out (Refused r) out
       go (REFUSED q) h = record { answer = ap Refused (let same : r ≡ q = cc in same); output = refl }
       go (PLAN p) h = absurd (let z : _≡_ {A = ℕ} 0 1 = cc in omega arith)
 
   module _ {c l : ℕ} (e : s ≡ Accepted c l) where
     record Looked : Type 0 where
       plan : Plan ℕ
-      accepted : accept standard (length m / 4) text ≡ PLAN plan
+      accepted : accept standard (length m / cellNumbers) text ≡ PLAN plan
       counted : c ≡ cells plan
 
     looked : Looked
     unfolding surveyed
-    looked = go (accept standard (length m / 4) text) refl (sym found ∙ e)
+    looked = go (accept standard (length m / cellNumbers) text) refl (sym found ∙ e)
       where
-        go : (x : Reading) → accept standard (length m / 4) text ≡ x → surveyed x ≡ Accepted c l → Looked
+        go : (x : Reading) → accept standard (length m / cellNumbers) text ≡ x → surveyed x ≡ Accepted c l → Looked
         go (REFUSED q) a h = absurd (let z : _≡_ {A = ℕ} 0 1 = cc in omega arith)
         go (PLAN p) a h = record { plan = p; accepted = a; counted = cc }
 
-    pub lent-few : length m / 4 ≤ cellLimit
-    lent-few = accepted-text standard (length m / 4) text (looked .accepted) .lent
+    pub lent-few : length m / cellNumbers ≤ cellLimit
+    lent-few = accepted-text standard (length m / cellNumbers) text (looked .accepted) .lent
 
-    acceptable : Acceptable text m (length m / 4) c
+    acceptable : Acceptable text m (length m / cellNumbers) c
     acceptable =
-        let a = accepted-text standard (length m / 4) text (looked .accepted) in
+        let a = accepted-text standard (length m / cellNumbers) text (looked .accepted) in
         record {
           lent = record { room = omega arith; few = a .lent };
           short = a .short;
@@ -186,20 +188,20 @@ module _ (text m : List ℕ) {s : Surveyed} (found : s ≡ surveyed (accept stan
         }
 
     -- the cells as `Cell::new` makes them
-    module _ {outer : Cell} (is : outer .0 ≡ length m / 4) where
+    module _ {outer : Cell} (is : outer .0 ≡ length m / cellNumbers) where
       pub acceptable-cell : Acceptable text m (outer .0) c
       acceptable-cell = rw is acceptable
 
       pub writes-run : (quota : ℕ) {out out′ : List ℕ} {r : Answer} → Writes (run-read (outer .0) quota (read tokenLimit (outer .0) text)) out r out′
-          → Writes (runs standard (length m / 4) quota text) out r out′
+          → Writes (runs standard (length m / cellNumbers) quota text) out r out′
       unfolding runs
       writes-run quota {out} {out′} {r} w =
-          let a = accepted-text standard (length m / 4) text (looked .accepted) in
-          subst (λ x. Writes (run-read (length m / 4) quota x) out r out′) (a .reads ∙ sym (looked .accepted))
+          let a = accepted-text standard (length m / cellNumbers) text (looked .accepted) in
+          subst (λ x. Writes (run-read (length m / cellNumbers) quota x) out r out′) (a .reads ∙ sym (looked .accepted))
           (subst (λ n. Writes (run-read n quota (read tokenLimit n text)) out r out′) is w)
 
 -- the whole service
-pub ran-call : (text : List ℕ) (quota : ℕ) (memory memory₁ memory₂ out out′ : List ℕ) (r : Answer) → Writes (runs standard (length memory / 4) quota text) out r out′
+pub ran-call : (text : List ℕ) (quota : ℕ) (memory memory₁ memory₂ out out′ : List ℕ) (r : Answer) → Writes (runs standard (length memory / cellNumbers) quota text) out r out′
     → length memory₁ ≡ length memory → memory₂ ≡ cleared memory₁ → Runs text quota memory out r memory₂ out′
 unfolding run cleared
 ran-call text quota memory memory₁ memory₂ out out′ r w long e =

@@ -4,13 +4,14 @@ ghost use mathlib.Core.Path.{_≡_};
 ghost use Rattle.plan.specs.Services.{accept, standard};
 ghost use Rattle.reader.specs.Counting.{surveyed};
 ghost use Rattle.services.specs.Calls.{Checks, Tidies};
+use items::put_tidied;
 use kinds::Cell;
 use kinds::Place;
 use plan::Answer;
 use plan::Refusal;
+use plan::TextFault;
 use reader::Surveyed;
 use reader::survey;
-use text::put_tidied;
 
 mod running;
 
@@ -21,7 +22,7 @@ fn look_over(text: &[u8], lent: usize) -> Surveyed
     ensures { λ r. ⌜ r ≡ surveyed (accept standard lent (now (text .entry))) ⌝ }
 {
     if Place::LIMIT < text.len() {
-        return Surveyed::Refused(Refusal::TooLong);
+        return Surveyed::Refused(Refusal::Text(TextFault::TooLong));
     }
     if Cell::LIMIT < lent {
         return Surveyed::Refused(Refusal::BadArena);
@@ -49,7 +50,7 @@ pub fn tidy(text: &[u8], output: &mut [u8]) -> Answer
             if output.len() < length as usize {
                 return Answer::Refused(Refusal::OutShort(length));
             }
-            put_tidied(text, output);
+            put_tidied(text, output, 0);
             Answer::Read { cells, length }
         }
     }

@@ -3,7 +3,7 @@
 ghost use mathlib.Core.Path.{_≡_};
 ghost use Prim.Native.Nat.{ℕ, _/_};
 ghost use lib.ListN.{length};
-ghost use Rattle.kinds.specs.Limits.{tokenLimit};
+ghost use Rattle.kinds.specs.Limits.{tokenLimit, cellNumbers};
 ghost use Rattle.plan.specs.Plan.{Plan};
 ghost use Rattle.plan.specs.Reading.{read};
 ghost use Rattle.plan.specs.Running.{RAN};
@@ -32,7 +32,7 @@ fn print_plan(text: &[u8], memory: &[u32], ended: Ended, output: &mut [u8]) -> A
     if output.len() < length as usize {
         return Answer::Refused(Refusal::OutShort(length));
     }
-    print_into(text, memory, held, output);
+    print_into(text, memory, held, output, 0);
     Answer::Ran {
         ending,
         steps: ended.steps,
@@ -61,10 +61,10 @@ fn run_accepted(
 
 // RUN, but for the clearing.
 fn run_uncleared(text: &[u8], quota: u32, memory: &mut [u32], output: &mut [u8]) -> Answer
-    ensures written { λ r. ⌜ Writes (runs standard (length (now (memory .entry)) / 4) quota (now (text .entry))) (now (output .entry)) r (now (output .exit)) ⌝ }
+    ensures written { λ r. ⌜ Writes (runs standard (length (now (memory .entry)) / cellNumbers) quota (now (text .entry))) (now (output .entry)) r (now (output .exit)) ⌝ }
     ensures as_long { λ r. ⌜ length (now (memory .exit)) ≡ length (now (memory .entry)) ⌝ }
 {
-    let lent = memory.len() / 4;
+    let lent = memory.len() / Cell::NUMBERS;
     match crate::look_over(text, lent) {
         Surveyed::Refused(refusal) => Answer::Refused(refusal),
         Surveyed::Accepted { cells, length } => {

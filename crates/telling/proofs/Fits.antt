@@ -6,6 +6,7 @@ use native.Mathlib.Omega.{arith}
 use lib.ListN.{length}
 use lib.Dec.{leb}
 use borrow.Author.Tests.{leb-true}
+use Rattle.kinds.specs.Limits.{cellNumbers}
 use Rattle.plan.specs.Plan.{print}
 use Rattle.plan.specs.Reading.{Reading, PLAN, REFUSED}
 use Rattle.plan.specs.Running.{Ran, RAN, run-plan}
@@ -30,5 +31,5 @@ pub printed-fits : (lim : Limits) (text : List ℕ) (quota memory-length : ℕ) 
     → r ≡ run lim text quota memory-length out .answer → numbers r .length ≤ length out
 unfolding run runs
 printed-fits lim text quota memory-length out e =
-    let n = memory-length / 4 in
+    let n = memory-length / cellNumbers in
     rw e (run-read-fits out n quota (accept lim n text))

@@ -4,20 +4,17 @@ ghost use mathlib.Core.Path.{_≡_};
 ghost use lib.ListN.{drop};
 ghost use Rattle.plan.specs.Reading.{class};
 ghost use Rattle.plan.specs.Token.{character, may-hold, value, well-formed};
-ghost use Rattle.text.specs.Classes.{class-number};
 ghost use Rattle.text.specs.Continued.{continued, Room};
 use plan::Character;
+use plan::Class;
 
 mod classes;
-mod tidy;
 
-pub use tidy::put_tidied;
-
-// The class number of a byte outside tokens.
-pub fn class_of(byte: u8) -> u8
-    ensures { λ r. ⌜ r ≡ class-number (class byte) ⌝ }
+// The class of a byte outside tokens.
+pub fn class_of(byte: u8) -> Class
+    ensures { λ r. ⌜ r ≡ class byte ⌝ }
 {
-    classes::CLASSES[byte as usize]
+    Class::of(classes::CLASSES[byte as usize])
 }
 
 // The value of a character once the bytes that follow its first have been taken, if they are there.
@@ -104,14 +101,19 @@ pub fn character_at(text: &[u8], at: usize) -> Character
     Character::Malformed
 }
 
+// The characters that open and close a token.
+pub const OPEN_BRACE: u32 = 0x7B;
+
+pub const CLOSE_BRACE: u32 = 0x7D;
+
 // Whether a token may hold the character of this value: no brace, no control character, no U+FFFD.
 pub fn may_hold(value: u32) -> bool
     ensures { λ r. ⌜ r ≡ may-hold value ⌝ }
 {
-    if value == 0x7B {
+    if value == OPEN_BRACE {
         return false;
     }
-    if value == 0x7D {
+    if value == CLOSE_BRACE {
         return false;
     }
     if value < 0x20 {

@@ -5,6 +5,7 @@ use native.Mathlib.Omega.{arith}
 use lib.ListN.{length}
 use Rattle.memory.specs.Memory.{whole}
 use Rattle.blocks.proofs.Counting.{Counting, block-small, block-low, count-first, count-low, count-less, count-fits, count-start, count-close, count-end}
+use Rattle.blocks.proofs.Starts.{is-close, is-start}
 use Rattle.blocks.proofs.Ways.{ahead}
 use Rattle.blocks.proofs.block_cells.Statement.{statement}
 use Rattle.blocks.proofs.block_cells.Tie as tie
@@ -28,8 +29,14 @@ link-of-requires c κs = (search needs, search block-low)
 loop-holds : tie.Need-loop-holds Inv-loop μ-loop
 loop-holds c = search (needs, count-first)
 
+closes-requires : tie.Need-closes-requires Inv-loop μ-loop
+closes-requires c κs = search needs
+
 add-count : tie.Need-add-count Inv-loop μ-loop
-add-count c = let e = c .before .before in omega (arith, count-fits (e .before .before .before .loop .inv) (e .if1 .taken) (c .if2 .taken))
+add-count c =
+    let p = c .before in
+    let e = p .before in
+    omega (arith, count-fits (e .before .before .before .loop .inv) (e .if1 .taken) (is-start _ (p .closes .ensures) (c .if2 .taken)))
 
 link-of-requires-2 : tie.Need-link-of-requires-2 Inv-loop μ-loop
 link-of-requires-2 c κs = (search needs, search count-low)
@@ -39,10 +46,13 @@ loop-less c = search (needs, count-less)
 
 loop-again : tie.Need-loop-again Inv-loop μ-loop
 loop-again c =
-    let e = c .before .before .before in
+    let p = c .before .before in
+    let e = p .before in
     let l = e .before .before .before in
-    ⊎-elim (λ w. count-start (l .loop .inv) (e .if1 .taken) (w .0 .taken) _ (c .link-of2 .ensures) _ (w .1))
-    (λ w. count-close (l .loop .inv) (e .if1 .taken) (w .0 .left) _ (c .link-of2 .ensures) _ (w .1)) (c .before .if2 .came)
+    ⊎-elim
+    (λ w. count-start (l .loop .inv) (e .if1 .taken) (is-start _ (p .closes .ensures) (w .0 .taken)) _ (c .link-of2 .ensures) _ (w .1))
+    (λ w. count-close (l .loop .inv) (e .if1 .taken) (is-close _ (p .closes .ensures) (w .0 .left)) _ (c .link-of2 .ensures) _ (w .1))
+    (c .before .if2 .came)
 
 returns : tie.Need-returns Inv-loop μ-loop
 returns c = search (needs, count-end)
@@ -57,6 +67,7 @@ block-cells-spec =
     start-requires
     link-of-requires
     loop-holds
+    closes-requires
     add-count
     link-of-requires-2
     loop-less

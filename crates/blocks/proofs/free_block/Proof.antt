@@ -1,9 +1,10 @@
 -- `free_block`: the loop's invariant is `Dropping`. The measure is how many ports are ahead.
-use mathlib.Core.Path.{refl}
+use native.Mathlib.Nat.{le-of-lt}
 use borrow.Author.Needs.{needs}
 use lib.ListN.{length}
 use Rattle.memory.specs.Memory.{whole}
 use Rattle.blocks.proofs.Dropping.{Dropping, drop-small, drop-first, drop-low, close-less, drop-close, start-less, drop-start, drop-end}
+use Rattle.blocks.proofs.Starts.{is-close, is-start}
 use Rattle.blocks.proofs.Ways.{ahead}
 use Rattle.blocks.proofs.free_block.Statement.{statement}
 use Rattle.blocks.proofs.free_block.Tie as tie
@@ -26,31 +27,43 @@ loop-holds : tie.Need-loop-holds Inv-loop μ-loop
 loop-holds c = search (needs, drop-first)
 
 link-of-requires : tie.Need-link-of-requires Inv-loop μ-loop
-link-of-requires c κs = (search needs, search drop-low)
+link-of-requires c κs = (search needs, le-of-lt (search drop-low))
 
-set-link-requires : tie.Need-set-link-requires Inv-loop μ-loop
-set-link-requires c κs = (search needs, search drop-low)
+closes-requires : tie.Need-closes-requires Inv-loop μ-loop
+closes-requires c κs = search needs
+
+keep-cell-requires : tie.Need-keep-cell-requires Inv-loop μ-loop
+keep-cell-requires c κs = (search needs, search drop-low)
+
+cell-requires : tie.Need-cell-requires Inv-loop μ-loop
+cell-requires c κs = search needs
 
 loop-less : tie.Need-loop-less Inv-loop μ-loop
-loop-less c = search (needs, start-less)
+loop-less c =
+    let s = c .before .before .before in
+    let n = s .before .before .before .before in
+    let t = n .before .before in
+    start-less (t .before .before .before .loop .inv) (t .if1 .taken) _ (n .link-of .ensures) _ (s .keep-cell .ensures .0) (s .keep-cell .ensures .1)
 
 loop-again : tie.Need-loop-again Inv-loop μ-loop
 loop-again c =
     let s = c .before .before .before in
     let e = s .before .before in
-    let n = e .before .before in
+    let p = e .before in
+    let n = p .before in
     let t = n .before .before in
-    drop-start (t .before .before .before .loop .inv) (t .if1 .taken) _ (n .link-of .ensures) _ _ (s .set-link .ensures .0) (s .set-link .ensures .1)
-    (e .if2 .taken) _ refl
+    drop-start (t .before .before .before .loop .inv) (t .if1 .taken) _ (n .link-of .ensures) _ (s .keep-cell .ensures .0) (s .keep-cell .ensures .1)
+    (is-start _ (p .closes .ensures) (e .if2 .taken)) _ (c .cell .ensures)
 
 loop-less-2 : tie.Need-loop-less-2 Inv-loop μ-loop
 loop-less-2 c = search (needs, close-less)
 
 loop-again-2 : tie.Need-loop-again-2 Inv-loop μ-loop
 loop-again-2 c =
-    let n = c .before .before in
+    let p = c .before in
+    let n = p .before in
     let t = n .before .before in
-    drop-close (t .before .before .before .loop .inv) (t .if1 .taken) _ (n .link-of .ensures) (c .if2 .left)
+    drop-close (t .before .before .before .loop .inv) (t .if1 .taken) _ (n .link-of .ensures) (is-close _ (p .closes .ensures) (c .if2 .left))
 
 same-length : tie.Need-same-length Inv-loop μ-loop
 same-length c = search needs
@@ -70,7 +83,9 @@ free-block-spec =
     start-requires
     loop-holds
     link-of-requires
-    set-link-requires
+    closes-requires
+    keep-cell-requires
+    cell-requires
     loop-less
     loop-again
     loop-less-2

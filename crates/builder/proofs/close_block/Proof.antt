@@ -8,8 +8,8 @@ use Rattle.builder.proofs.close_block.Tie as tie
 close-requires : tie.Need-close-requires
 close-requires c κs = search needs
 
-link-of-requires : tie.Need-link-of-requires
-link-of-requires c κs = search needs
+kept-cell-requires : tie.Need-kept-cell-requires
+kept-cell-requires c κs = search needs
 
 set-link-requires : tie.Need-set-link-requires
 set-link-requires c κs = search needs
@@ -22,4 +22,4 @@ returns c = record { steps = search (needs, closed); outer = refl; aside = searc
 
 pub close-block-spec : {M : Type 1} → statement M
 close-block-spec =
-    tie.close (tie.spec close-requires link-of-requires set-link-requires same-length returns)
+    tie.close (tie.spec close-requires kept-cell-requires set-link-requires same-length returns)

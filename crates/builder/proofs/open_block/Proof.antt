@@ -11,17 +11,8 @@ close-requires c κs = search needs
 begin-cell-requires : tie.Need-begin-cell-requires
 begin-cell-requires c κs = search needs
 
-cast-set-number : tie.Need-cast-set-number
-cast-set-number c = search needs
-
-mul-set-number : tie.Need-mul-set-number
-mul-set-number c = search needs
-
-add-set-number : tie.Need-add-set-number
-add-set-number c = search needs
-
-set-number-requires : tie.Need-set-number-requires
-set-number-requires c κs = search needs
+keep-cell-requires : tie.Need-keep-cell-requires
+keep-cell-requires c κs = search needs
 
 append-requires : tie.Need-append-requires
 append-requires c κs = search needs
@@ -33,9 +24,9 @@ returns : tie.Need-returns
 returns c =
     let p = c .before .before in
     let s = p .before .before .before .before in
-    let g = s .before .before .before .before .before in
+    let g = s .before .before .before .before in
     record {
-      steps = block-put _ _ _ _ _ _ _ _ (g .before .before .close .ensures) (g .begin-cell .ensures) (s .set-number .ensures .0) (p .append .ensures);
+      steps = block-put _ _ _ _ _ _ _ _ (g .before .before .close .ensures) (g .begin-cell .ensures) (s .keep-cell .ensures .0) (p .append .ensures);
       outer = search needs;
       aside = search (needs, aside-on);
     }
@@ -43,13 +34,4 @@ returns c =
 pub open-block-spec : {M : Type 1} → statement M
 open-block-spec =
     tie.close
-    (tie.spec
-    close-requires
-    begin-cell-requires
-    cast-set-number
-    mul-set-number
-    add-set-number
-    set-number-requires
-    append-requires
-    same-length
-    returns)
+    (tie.spec close-requires begin-cell-requires keep-cell-requires append-requires same-length returns)

@@ -13,30 +13,14 @@ mul-if2 c = search needs
 returns-2 : tie.Need-returns-2
 returns-2 c = search (needs, outermost-opens)
 
-cast-number : tie.Need-cast-number
-cast-number c = search needs
+kind-at-requires : tie.Need-kind-at-requires
+kind-at-requires c κs = search needs
 
-mul-number : tie.Need-mul-number
-mul-number c = search needs
-
-mul-result : tie.Need-mul-result
-mul-result c = search needs
-
-shared-slice-read-result : tie.Need-shared-slice-read-result
-shared-slice-read-result c = search needs
+closes-requires : tie.Need-closes-requires
+closes-requires c κs = search needs
 
 returns-3 : tie.Need-returns-3
 returns-3 c = search (needs, datum-opens)
 
 pub opens-spec : {M : Type 1} → statement M
-opens-spec =
-    tie.close
-    (tie.spec
-    returns
-    mul-if2
-    returns-2
-    cast-number
-    mul-number
-    mul-result
-    shared-slice-read-result
-    returns-3)
+opens-spec = tie.close (tie.spec returns mul-if2 returns-2 kind-at-requires closes-requires returns-3)

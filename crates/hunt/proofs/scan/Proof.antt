@@ -1,13 +1,10 @@
 -- `scan`: the loop's invariant is `Scanning`. The measure is how many ports are ahead.
-use mathlib.Core.Path.{_≡_, refl, ap}
-use mathlib.Core.Logic.{⊎-elim, ⊎-map}
 use native.Mathlib.Omega.{arith}
 use borrow.Author.Needs.{needs}
 use lib.ListN.{length}
 use Rattle.memory.specs.Memory.{whole}
-use Rattle.memory.specs.declared.Port.{Port}
 use Rattle.blocks.proofs.Ways.{ahead}
-use Rattle.hunt.proofs.Scanning.{Scanning, scan-small, scan-start, scan-first, scan-low, scan-past, scan-found, scan-none}
+use Rattle.hunt.proofs.Scanning.{Scanning, scan-small, scan-start, scan-first, scan-here, scan-next, scan-past, scan-found, scan-none}
 use Rattle.hunt.proofs.scan.Statement.{statement}
 use Rattle.hunt.proofs.scan.Tie as tie
 
@@ -18,9 +15,6 @@ Inv-loop text memory outer first end third₀ second₀ last₀ at₀ third seco
 abbrev μ-loop : tie.MeasureT-loop
 μ-loop text memory outer first end third₀ second₀ last₀ at₀ third second last at =
     length (ahead (whole (outer .0) memory (first .0)) (outer .0) (end .0) (at .0))
-
-number : {p r : Port} → p ≡ r → p .0 ≡ r .0
-number e = ap (λ (p : Port). p .0) e
 
 close-requires : tie.Need-close-requires Inv-loop μ-loop
 close-requires c κs = search (needs, scan-small)
@@ -34,19 +28,8 @@ link-of-requires c κs = (search needs, search scan-start)
 loop-holds : tie.Need-loop-holds Inv-loop μ-loop
 loop-holds c = search (needs, scan-first)
 
-cast-number : tie.Need-cast-number Inv-loop μ-loop
-cast-number c = search needs
-
-mul-number : tie.Need-mul-number Inv-loop μ-loop
-mul-number c = search needs
-
-mul-kind : tie.Need-mul-kind Inv-loop μ-loop
-mul-kind c = search needs
-
-shared-slice-read-kind : tie.Need-shared-slice-read-kind Inv-loop μ-loop
-shared-slice-read-kind c =
-    let l = c .before .before .before .before .before in
-    omega (arith, scan-low (l .loop .inv) (c .before .before .if1 .taken), l .loop .inv .lent .room)
+kind-at-requires : tie.Need-kind-at-requires Inv-loop μ-loop
+kind-at-requires c κs = scan-here (c .before .before .before .loop .inv) (c .if1 .taken)
 
 ready-at-requires : tie.Need-ready-at-requires Inv-loop μ-loop
 ready-at-requires c κs = search needs
@@ -57,41 +40,42 @@ enum-known-spot c = search needs
 returns : tie.Need-returns Inv-loop μ-loop
 returns c =
     let r = c .before .before .before in
-    let t = r .before .before .before in
-    let l = t .before .before .before in
-    scan-found (l .loop .inv) (t .if1 .taken) _ refl _ (r .ready-at .ensures) _ (c .before .spot .given .1) _ (search needs)
+    let t = r .before .before in
+    scan-found (t .before .before .before .loop .inv) (t .if1 .taken) _ (r .before .kind-at .ensures) _ (r .ready-at .ensures) _ (c .before .spot .given .1) _ (search needs)
 
 enum-told : tie.Need-enum-told Inv-loop μ-loop
 enum-told c = search needs
 
-add-t21 : tie.Need-add-t21 Inv-loop μ-loop
-add-t21 c =
-    let t = c .before .before .before .before .before .before .before in
-    let l = t .before .before .before in
-    omega (arith, scan-low (l .loop .inv) (t .if1 .taken), l .loop .inv .lent .few)
+closes-requires : tie.Need-closes-requires Inv-loop μ-loop
+closes-requires c κs = search needs
+
+add-t17 : tie.Need-add-t17 Inv-loop μ-loop
+add-t17 c =
+    let k = c .before .before .before .before .before in
+    let inv = k .before .before .before .before .loop .inv in
+    omega (arith, inv .lent .few, scan-next inv (k .before .if1 .taken) (k .kind-at .result) _ (c .before .closes .ensures))
 
 link-of-requires-2 : tie.Need-link-of-requires-2 Inv-loop μ-loop
 link-of-requires-2 c κs =
-    let t = c .before .before .before .before .before .before in
-    let l = t .before .before .before in
-    let low = scan-low (l .loop .inv) (t .if1 .taken) in
-    (l .loop .inv .lent, ⊎-elim (λ w. omega (arith, number (w .2))) (λ w. omega (arith, number (w .1))) (c .if2 .came))
+    let k = c .before .before .before .before .before in
+    let inv = k .before .before .before .before .loop .inv in
+    (inv .lent, scan-next inv (k .before .if1 .taken) (k .kind-at .result) _ (c .before .closes .ensures))
 
 loop-less : tie.Need-loop-less Inv-loop μ-loop
 loop-less c =
-    let r = c .before .before .before .before in
-    let t = r .before .before .before in
-    let l = t .before .before .before in
-    let on = scan-past (l .loop .inv) (t .if1 .taken) _ refl _ (r .ready-at .ensures) (c .before .before .enum-told .given .1) in
-    on _ _ (⊎-map (λ w. (w .0 .taken, number (w .2))) (λ w. (w .0 .left, number (w .1))) (c .before .if2 .came)) (c .link-of2 .ensures) .1
+    let e = c .before .before .before in
+    let r = e .before .before in
+    let t = r .before .before in
+    scan-past (t .before .before .before .loop .inv) (t .if1 .taken) _ (r .before .kind-at .ensures) _ (r .ready-at .ensures) (e .enum-told .given .1)
+    _ _ (c .before .before .closes .ensures) (c .link-of2 .ensures) .1
 
 loop-again : tie.Need-loop-again Inv-loop μ-loop
 loop-again c =
-    let r = c .before .before .before .before in
-    let t = r .before .before .before in
-    let l = t .before .before .before in
-    let on = scan-past (l .loop .inv) (t .if1 .taken) _ refl _ (r .ready-at .ensures) (c .before .before .enum-told .given .1) in
-    on _ _ (⊎-map (λ w. (w .0 .taken, number (w .2))) (λ w. (w .0 .left, number (w .1))) (c .before .if2 .came)) (c .link-of2 .ensures) .0
+    let e = c .before .before .before in
+    let r = e .before .before in
+    let t = r .before .before in
+    scan-past (t .before .before .before .loop .inv) (t .if1 .taken) _ (r .before .kind-at .ensures) _ (r .ready-at .ensures) (e .enum-told .given .1)
+    _ _ (c .before .before .closes .ensures) (c .link-of2 .ensures) .0
 
 returns-2 : tie.Need-returns-2 Inv-loop μ-loop
 returns-2 c = search (needs, scan-none)
@@ -106,15 +90,13 @@ scan-spec =
     start-requires
     link-of-requires
     loop-holds
-    cast-number
-    mul-number
-    mul-kind
-    shared-slice-read-kind
+    kind-at-requires
     ready-at-requires
     enum-known-spot
     returns
     enum-told
-    add-t21
+    closes-requires
+    add-t17
     link-of-requires-2
     loop-less
     loop-again

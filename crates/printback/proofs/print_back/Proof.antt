@@ -58,8 +58,8 @@ print-into-requires c κs =
     let q = surveyed-plan _ (sym (v .survey .ensures) ∙ l .length .given .1) in
     let h = b .build-plan .ensures .0 (q .0) (rw (n .new .ensures) (q .1)) in
     let cells = ap (λ (k : Cell). k .0) (b .build-plan .ensures .1 .0) ∙ n .new .ensures in
-    prints-within _ _ _ _ (q .0) (h .0)
-    (record { room = omega (arith, cells, b .build-plan .ensures .1 .1 .as-long); few = omega (arith, cells) }) (h .1) (h .2)
+    prints-within _ _ _ _ (q .0) (h .plan)
+    (record { room = omega (arith, cells, b .build-plan .ensures .1 .1 .as-long); few = omega (arith, cells) }) (h .alike) (h .held)
     (omega (arith, q .3, e .if3 .left))
 
 clear-requires : tie.Need-clear-requires

@@ -1,4 +1,4 @@
--- `read_byte`: the class number says which case of the definition it is.
+-- `read_byte`: the class says which case of the definition it is.
 use borrow.Author.Needs.{needs}
 use Rattle.reader.proofs.Counted.{step-operator, step-open, step-close, step-brace, step-blank, step-bad}
 use Rattle.reader.proofs.read_byte.Statement.{statement}
@@ -7,20 +7,41 @@ use Rattle.reader.proofs.read_byte.Tie as tie
 class-of-requires : tie.Need-class-of-requires
 class-of-requires c κs = search needs
 
+enum-told : tie.Need-enum-told
+enum-told c = search needs
+
 one-item-requires : tie.Need-one-item-requires
 one-item-requires c κs = search needs
 
-returns : tie.Need-returns
-returns c = search (needs, step-operator)
+enum-told-2 : tie.Need-enum-told-2
+enum-told-2 c = search needs
 
 open-block-requires : tie.Need-open-block-requires
 open-block-requires c κs = search needs
 
-returns-2 : tie.Need-returns-2
-returns-2 c = search (needs, step-open)
+enum-told-3 : tie.Need-enum-told-3
+enum-told-3 c = search needs
 
 close-block-requires : tie.Need-close-block-requires
 close-block-requires c κs = search needs
+
+enum-told-4 : tie.Need-enum-told-4
+enum-told-4 c = search needs
+
+enum-told-5 : tie.Need-enum-told-5
+enum-told-5 c = search needs
+
+enum-told-6 : tie.Need-enum-told-6
+enum-told-6 c = search needs
+
+new-requires : tie.Need-new-requires
+new-requires c κs = search needs
+
+returns : tie.Need-returns
+returns c = search (needs, step-operator)
+
+returns-2 : tie.Need-returns-2
+returns-2 c = search (needs, step-open)
 
 returns-3 : tie.Need-returns-3
 returns-3 c = search (needs, step-close)
@@ -31,9 +52,6 @@ returns-4 c = search (needs, step-brace)
 returns-5 : tie.Need-returns-5
 returns-5 c = search (needs, step-blank)
 
-new-requires : tie.Need-new-requires
-new-requires c κs = search needs
-
 returns-6 : tie.Need-returns-6
 returns-6 c = search (needs, step-bad)
 
@@ -42,13 +60,19 @@ read-byte-spec =
     tie.close
     (tie.spec
     class-of-requires
+    enum-told
     one-item-requires
-    returns
+    enum-told-2
     open-block-requires
-    returns-2
+    enum-told-3
     close-block-requires
+    enum-told-4
+    enum-told-5
+    enum-told-6
+    new-requires
+    returns
+    returns-2
     returns-3
     returns-4
     returns-5
-    new-requires
     returns-6)

@@ -6,7 +6,8 @@ use lib.ListN.{length}
 use native.Mathlib.Omega.{arith}
 use borrow.Author.Needs.{needs}
 use Rattle.plan.specs.Reading.{place}
-use Rattle.plan.specs.declared.Refusal.the-variants.{BadToken}
+use Rattle.plan.specs.declared.Refusal.the-variants.{Text}
+use Rattle.plan.specs.declared.TextFault.the-variants.{BadToken}
 use Rattle.reader.specs.declared.Surveyed.the-variants.{Refused}
 use Rattle.reader.proofs.Going.{Going, going-start, going-small, going-on, going-stop, going-end}
 use Rattle.reader.proofs.Inside.{Inside, inside-start, inside-further, inside-bad, inside-close}
@@ -63,8 +64,8 @@ items-again c =
     let e = r .before .before in
     going-on (e .before .items .inv) (e .if1 .left) _ (sym (c .before .next .given .1) ∙ r .read-byte .ensures)
 
-enum-known-refusal : tie.Need-enum-known-refusal Inv-loop μ-loop Inv-items μ-items
-enum-known-refusal c = search needs
+enum-known-fault : tie.Need-enum-known-fault Inv-loop μ-loop Inv-items μ-items
+enum-known-fault c = search needs
 
 enum-told : tie.Need-enum-told Inv-loop μ-loop Inv-items μ-items
 enum-told c = search needs
@@ -145,12 +146,12 @@ returns-2 : tie.Need-returns-2 Inv-loop μ-loop Inv-items μ-items
 returns-2 c =
     let r = c .before .before .before in
     let e = r .before .before in
-    going-stop (e .before .items .inv) (e .if1 .left) _ (sym (c .before .refusal .given .1) ∙ r .read-byte .ensures)
+    going-stop (e .before .items .inv) (e .if1 .left) _ (sym (c .before .fault .given .1) ∙ r .read-byte .ensures)
 
 returns-3 : tie.Need-returns-3 Inv-loop μ-loop Inv-items μ-items
 returns-3 c =
     let t = c .before .before .before in
-    ap (λ k. Refused (BadToken (place k))) (c .new2 .ensures)
+    ap (λ k. Refused (Text (BadToken (place k)))) (c .new2 .ensures)
     ∙ inside-bad (t .before .loop .inv) (sym (c .before .enum-told3 .given .1) ∙ t .token-byte .ensures)
 
 pub survey-spec : {M : Type 1} → statement M
@@ -171,7 +172,7 @@ survey-spec =
     add-at
     items-less
     items-again
-    enum-known-refusal
+    enum-known-fault
     enum-told
     add-end
     loop-holds

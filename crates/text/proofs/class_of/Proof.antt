@@ -1,17 +1,25 @@
--- `class_of`: the code's table is by computation the one that the rule makes of 0 to 255, so its entry is the rule's.
+-- `class_of`: the code's table is by computation the one that the rule makes of 0 to 255, so its entry is the rule's number, which tells
+-- the class.
+use mathlib.Core.Path.{ap, _∙_}
 use borrow.Author.Needs.{needs}
 use Rattle.plan.specs.Reading.{class}
-use Rattle.text.specs.Classes.{class-number}
+use Rattle.plan.specs.Numbered.{class-number, class-of}
+use Rattle.plan.proofs.Numbered.{class-told}
 use Rattle.text.proofs.Table.{entry}
 use Rattle.text.proofs.class_of.Statement.{statement}
 use Rattle.text.proofs.class_of.Tie as tie
 
-array-read-result : tie.Need-array-read-result
-array-read-result c = search needs
+array-read-of : tie.Need-array-read-of
+array-read-of c = search needs
+
+of-requires : tie.Need-of-requires
+of-requires c κs = search needs
 
 returns : tie.Need-returns
 unfolding class
-returns c = entry (λ b. class-number (class b)) 256 (c .args .byte) (search needs)
+returns c =
+    let byte = c .before .args .byte in
+    c .of .ensures ∙ ap class-of (entry (λ b. class-number (class b)) 256 byte (search needs)) ∙ class-told (class byte)
 
 pub class-of-spec : {M : Type 1} → statement M
-class-of-spec = tie.close (tie.spec array-read-result returns)
+class-of-spec = tie.close (tie.spec array-read-of of-requires returns)

@@ -8,10 +8,10 @@ use Rattle.memory.proofs.print.print_into.Statement.{statement}
 use Rattle.memory.proofs.print.print_into.Tie as tie
 
 abbrev Inv-loop : tie.InvT-loop
-Inv-loop text memory out₀ outer first end port₀ put₀ out port put = Putting text memory out₀ out (outer .0) (first .0) (port .0) put
+Inv-loop text memory out₀ from outer first end port₀ put₀ out port put = Putting text memory out₀ from out (outer .0) (first .0) (port .0) put
 
 abbrev μ-loop : tie.MeasureT-loop
-μ-loop text memory out₀ outer first end port₀ put₀ out port put = length (ahead memory (outer .0) (first .0) (port .0))
+μ-loop text memory out₀ from outer first end port₀ put₀ out port put = length (ahead memory (outer .0) (first .0) (port .0))
 
 close-requires : tie.Need-close-requires Inv-loop μ-loop
 close-requires c κs = search needs
@@ -25,8 +25,8 @@ piece-at-requires c κs = search (needs, walk-lent)
 put-piece-requires : tie.Need-put-piece-requires Inv-loop μ-loop
 put-piece-requires c κs = search (needs, walk-in-text, put-fits)
 
-piece-length-requires : tie.Need-piece-length-requires Inv-loop μ-loop
-piece-length-requires c κs = search needs
+length-requires : tie.Need-length-requires Inv-loop μ-loop
+length-requires c κs = search needs
 
 cast-put : tie.Need-cast-put Inv-loop μ-loop
 cast-put c = search needs
@@ -38,7 +38,7 @@ link-of-requires : tie.Need-link-of-requires Inv-loop μ-loop
 link-of-requires c κs =
     let e = c .before .before .before .before .before .before in
     let l = e .before .before .before in
-    (search needs, walk-below _ _ _ _ _ _ _ (l .loop .inv .walk) _ (l .before .close .ensures) (e .if1 .taken))
+    (search needs, walk-below _ _ _ _ _ _ _ _ (l .loop .inv .walk) _ (l .before .close .ensures) (e .if1 .taken))
 
 loop-less : tie.Need-loop-less Inv-loop μ-loop
 loop-less c = search (needs, walk-less)
@@ -62,7 +62,7 @@ print-into-spec =
     loop-holds
     piece-at-requires
     put-piece-requires
-    piece-length-requires
+    length-requires
     cast-put
     add-put
     link-of-requires

@@ -19,7 +19,7 @@ use Rattle.memory.proofs.print.printed_length.Statement.{statement}
 use Rattle.memory.proofs.print.printed_length.Tie as tie
 
 abbrev Inv-loop : tie.InvT-loop
-Inv-loop text memory outer first end port₀ length₀ port length = Walk printLimit text memory (outer .0) (first .0) (port .0) length
+Inv-loop text memory outer first end port₀ length₀ port length = Walk 0 printLimit text memory (outer .0) (first .0) (port .0) length
 
 abbrev μ-loop : tie.MeasureT-loop
 μ-loop text memory outer first end port₀ length₀ port length = size-of (ahead memory (outer .0) (first .0) (port .0))
@@ -33,14 +33,14 @@ loop-holds c = search (needs, walk-first)
 piece-at-requires : tie.Need-piece-at-requires Inv-loop μ-loop
 piece-at-requires c κs = search (needs, walk-lent)
 
-piece-length-requires : tie.Need-piece-length-requires Inv-loop μ-loop
-piece-length-requires c κs = search needs
+length-requires : tie.Need-length-requires Inv-loop μ-loop
+length-requires c κs = search needs
 
 add-length : tie.Need-add-length Inv-loop μ-loop
 add-length c =
     let e = c .before .before in
     let l = e .before .before .before in
-    omega (arith, walk-fits _ _ _ _ _ _ _ (l .loop .inv) _ (l .before .close .ensures) (e .if1 .taken) _ (c .before .piece-at .ensures))
+    omega (arith, walk-fits _ _ _ _ _ _ _ _ (l .loop .inv) _ (l .before .close .ensures) (e .if1 .taken) _ (c .before .piece-at .ensures))
 
 link-of-requires : tie.Need-link-of-requires Inv-loop μ-loop
 link-of-requires c κs = (search needs, search walk-below)
@@ -63,7 +63,7 @@ printed-length-spec =
     close-requires
     loop-holds
     piece-at-requires
-    piece-length-requires
+    length-requires
     add-length
     link-of-requires
     loop-less

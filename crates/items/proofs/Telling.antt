@@ -1,0 +1,196 @@
+-- What the class of a byte tells of the pieces that the text shows from there on, and each answer of the walk by it.
+use Prim.Native.Nat.{ℕ, _+_, _-_, _≤_, _<_}
+use mathlib.Core.Path.{_≡_, refl, ap, sym, _∙_, subst}
+use mathlib.Core.List.{List, [], _∷_, _++_, append-assoc}
+use native.Mathlib.Omega.{arith}
+use native.Mathlib.Numerals.{add-one}
+use lib.ListN.{length, getD, take, drop, length-append, length-drop, drop-of-length-le}
+use lib.Seq.{drop-at, drop-cons, drop-drop, take-at}
+use Rattle.kinds.specs.Limits.{textLimit, tokenLimit}
+use Rattle.kinds.specs.declared.Place.{Place}
+use Rattle.kinds.specs.declared.Token.{Token as TextToken}
+use Rattle.plan.specs.Plan.{close-brace, open-brace}
+use Rattle.plan.specs.Pieces.{Found, Piece as PlanPiece, OP, TOKEN, BEGIN, END, Shows, nothing, blank, an-operator, a-token, opens, closes, piece-print}
+use Rattle.plan.specs.Reading.{class}
+use Rattle.plan.specs.declared.Class.{Class}
+use Rattle.plan.specs.declared.Class.the-variants.{
+  Operator as OPERATOR,
+  Open as OPEN,
+  Close as CLOSE,
+  Brace as BRACE,
+  Blank as BLANK,
+  Bad as BAD,
+}
+use Rattle.plan.specs.declared.Operator.{Operator}
+use Rattle.plan.proofs.Classes.{Byte, class-byte}
+use Rattle.plan.proofs.Tokens.{allowed-parts}
+use Rattle.pieces.specs.Written.{Is, is-operator, is-token, is-open, is-close, TokenAt}
+use Rattle.pieces.specs.declared.Piece.{Piece as CodePiece}
+use Rattle.pieces.specs.declared.Piece.the-variants.{Operator as an-op, Token, Open, Close}
+use Rattle.items.specs.Walk.{Ahead, Placed, Passed, Walked, TokenFrom, one-byte, one-token}
+use Rattle.items.specs.declared.Step.{Step}
+use Rattle.items.specs.declared.Step.the-variants.{End, Piece as StepPiece}
+
+-- the first piece is x, of one byte
+abbrev First : (at : ℕ) → PlanPiece ℕ → List ℕ → List (PlanPiece ℕ) → Type 0
+First at x bs ps = (later : List (PlanPiece ℕ)) × (ps ≡ x ∷ later) × Shows tokenLimit (at + 1) bs later
+
+-- by the class of the byte at the place, with the bytes bs behind it
+abbrev Told : Class → (at : ℕ) → List ℕ → List (PlanPiece ℕ) → Type 0
+Told (OPERATOR o) at bs ps = First at (OP at o) bs ps
+Told OPEN at bs ps = First at (BEGIN at) bs ps
+Told CLOSE at bs ps = First at END bs ps
+Told BRACE at bs ps =
+    (t : List ℕ) × (f : Found tokenLimit bs t) × (later : List (PlanPiece ℕ)) × (ps ≡ TOKEN at t ∷ later) × Shows tokenLimit (at + (length t + 2)) (f .rest) later
+Told BLANK at bs ps = Shows tokenLimit (at + 1) bs ps
+Told BAD at bs ps = ⊥
+
+told : {at b : ℕ} {bs : List ℕ} {ps : List (PlanPiece ℕ)} → Shows tokenLimit at (b ∷ bs) ps → Told (class b) at bs ps
+told (blank c s) = rw c s
+told (an-operator c s) = rw c (_, refl, s)
+told (a-token t c a s) = rw c (t, record { rest = _; splits = refl; fine = a }, _, refl, s)
+told (opens c s) = rw c (_, refl, s)
+told (closes c s) = rw c (_, refl, s)
+
+pub byte-told : (j : CodePiece) {at : ℕ} {p : Place} → p .0 ≡ at → StepPiece j p (record { at = at + 1 }) ≡ one-byte j at
+byte-told j {at} e = ap (λ n. StepPiece j (record { 0 = n }) (record { at = at + 1 })) e
+
+-- a token's end lies within the text, and within the token's limit
+pub record TokenEnds (text : List ℕ) (at fin : ℕ) : Type 0 where
+  pub inside : fin < length text
+  pub ahead : at < fin
+  pub few : fin + 1 - at ≤ tokenLimit
+  pub short : length text ≤ textLimit
+
+-- the place of the token's end, as `token_end` finds it
+pub token-ends : {text : List ℕ} {at fin : ℕ} → TokenFrom text at → ((t : List ℕ) → Found tokenLimit (drop (at + 1) text) t → fin ≡ at + 1 + length t)
+    → TokenEnds text at fin
+token-ends {text} {at} f ends =
+    let there = ends (f .t) (f .found) in
+    let fine = allowed-parts tokenLimit (f .t) (f .found .fine) in
+    record {
+      inside = omega (arith, there, ap length (f .found .splits), length-append (f .t) (close-brace ∷ f .found .rest), length-drop (at + 1) text);
+      ahead = omega (arith, there);
+      few = omega (arith, there, fine .1);
+      short = f .short;
+    }
+
+pub token-told : {at fin : ℕ} (t : List ℕ) {p : Place} {k : TextToken} → fin ≡ at + 1 + length t → p .0 ≡ at → k .at ≡ p → k .len ≡ fin + 1 - at
+    → StepPiece (Token k) p (record { at = fin + 1 }) ≡ one-token at t
+token-told {at} {fin} t {p} {k} ends here there long =
+    let len : k .len ≡ length t + 2 = omega arith in
+    let behind : fin + 1 ≡ at + (length t + 2) = omega arith in
+    let made : ℕ → ℕ → ℕ → Step = λ a l b. StepPiece (Token (record { at = record { 0 = a }; len = l })) (record { 0 = a }) (record { at = b }) in
+    subst (λ q. StepPiece (Token k) q (record { at = fin + 1 }) ≡ one-token at t) there
+    (ap (λ a. made a (k .len) (fin + 1)) (ap (λ (q : Place). q .0) there ∙ here) ∙ ap (λ l. made at l (fin + 1)) len ∙ ap (made at (length t + 2)) behind)
+
+-- what the walk knows where it stands, behind what meant nothing
+pub record Passing (text : List ℕ) (from at : ℕ) : Type 0 where
+  pub short : length text ≤ textLimit
+  pub low : from ≤ at
+  pub come : List (PlanPiece ℕ)
+  pub shows : Shows tokenLimit at (drop at text) come
+  pub still : (ps : List (PlanPiece ℕ)) → Shows tokenLimit from (drop from text) ps → Shows tokenLimit at (drop at text) ps
+
+pub passing-first : {text : List ℕ} {from : ℕ} → Ahead text from → Passing text from from
+passing-first a = record { short = a .short; low = omega arith; come = a .come; shows = a .shows; still = λ ps s. s }
+
+module _ {text : List ℕ} {from at : ℕ} (p : Passing text from at) (inside : at < length text) where
+  abbrev b : ℕ
+  b = getD text at 0
+
+  onward : drop at text ≡ b ∷ drop (at + 1) text
+  onward = drop-cons text at 0 inside ∙ rw add-one refl
+
+  module _ {k : Class} (e : k ≡ class b) where
+    here : (c : Class) → k ≡ c → {ps : List (PlanPiece ℕ)} → Shows tokenLimit at (drop at text) ps → Told c at (drop (at + 1) text) ps
+    here c h {ps} s = subst (λ x. Told x at (drop (at + 1) text) ps) (sym e ∙ h) (told (subst (λ us. Shows tokenLimit at us ps) onward s))
+
+    byte : (c : Class) → k ≡ c → Byte c b
+    byte c h = subst (λ x. Byte x b) (sym e ∙ h) (class-byte b)
+
+    pub pass-blank : k ≡ BLANK → Passing text from (at + 1)
+    pass-blank h =
+        record { short = p .short; low = omega (arith, p .low); come = p .come; shows = here BLANK h (p .shows); still = λ ps s. here BLANK h (p .still ps s) }
+
+    pub pass-bad : (r : Step) → k ≡ BAD → (ps : List (PlanPiece ℕ)) → Shows tokenLimit from (drop from text) ps → Walked text from r ps
+    pass-bad r h ps s = absurd (here BAD h (p .shows))
+
+    -- a piece of one byte
+    one-passed : (j : CodePiece) (x : PlanPiece ℕ) {ps : List (PlanPiece ℕ)} → Is text j x → Placed at x → piece-print x ≡ b ∷ []
+        → First at x (drop (at + 1) text) ps → Passed text from j at (at + 1) ps
+    one-passed j x is placed prints f =
+        record {
+          first = x;
+          later = f .0;
+          parts = f .1;
+          is = is;
+          placed = placed;
+          prints = onward ∙ ap (_++ drop (at + 1) text) (sym prints);
+          shows = f .2;
+          ahead = omega (arith, p .low);
+          within = omega arith;
+        }
+
+    module _ (r : Step) where
+      pub pass-operator : (o : Operator) → k ≡ OPERATOR o → r ≡ one-byte (an-op o) at
+          → (ps : List (PlanPiece ℕ)) → Shows tokenLimit from (drop from text) ps → Walked text from r ps
+      unfolding piece-print
+      pass-operator o h is ps s =
+          rw is (one-passed (an-op o) (OP at o) is-operator refl (ap (_∷ []) (sym (byte (OPERATOR o) h))) (here (OPERATOR o) h (p .still ps s)))
+
+      pub pass-open : k ≡ OPEN → r ≡ one-byte Open at → (ps : List (PlanPiece ℕ)) → Shows tokenLimit from (drop from text) ps → Walked text from r ps
+      unfolding piece-print
+      pass-open h is ps s = rw is (one-passed Open (BEGIN at) is-open refl (ap (_∷ []) (sym (byte OPEN h))) (here OPEN h (p .still ps s)))
+
+      pub pass-close : k ≡ CLOSE → r ≡ one-byte Close at → (ps : List (PlanPiece ℕ)) → Shows tokenLimit from (drop from text) ps → Walked text from r ps
+      unfolding piece-print
+      pass-close h is ps s = rw is (one-passed Close END is-close tt (ap (_∷ []) (sym (byte CLOSE h))) (here CLOSE h (p .still ps s)))
+
+    pub token-from : k ≡ BRACE → TokenFrom text at
+    token-from h = let t = here BRACE h (p .shows) in record { short = p .short; inside = inside; t = t .0; found = t .1 }
+
+    -- the token that the `{` opens
+    module _ (h : k ≡ BRACE) (t : List ℕ) (f : Found tokenLimit (drop (at + 1) text) t) where
+      abbrev whole : List ℕ
+      whole = open-brace ∷ (t ++ close-brace ∷ [])
+
+      long : length whole ≡ length t + 2
+      long = omega (arith, length-append t (close-brace ∷ []))
+
+      parts : drop at text ≡ whole ++ f .rest
+      parts = onward ∙ rw (byte BRACE h, f .splits) (ap (open-brace ∷_) (sym (append-assoc t (close-brace ∷ []) (f .rest))))
+
+      behind : drop (at + (length t + 2)) text ≡ f .rest
+      behind = sym (drop-drop (length t + 2) at text) ∙ ap (drop (length t + 2)) parts ∙ drop-at whole (f .rest) (length t + 2) long
+
+      inside-text : at + (length t + 2) ≤ length text
+      inside-text = omega (arith, long, ap length parts, length-append whole (f .rest), length-drop at text)
+
+      token-there : TokenAt text at (length t + 2) t
+      token-there = (inside-text, ap (take (length t + 2)) parts ∙ take-at whole (f .rest) (length t + 2) long)
+
+    pub pass-token : (r : Step) → k ≡ BRACE → ((t : List ℕ) → Found tokenLimit (drop (at + 1) text) t → r ≡ one-token at t)
+        → (ps : List (PlanPiece ℕ)) → Shows tokenLimit from (drop from text) ps → Walked text from r ps
+    unfolding piece-print
+    pass-token r h is ps s =
+        let (t, f, later, first, shows) = here BRACE h (p .still ps s) in
+        rw (is t f) record {
+          first = TOKEN at t;
+          later = later;
+          parts = first;
+          is = is-token (token-there h t f);
+          placed = refl;
+          prints = parts h t f ∙ ap (whole h t f ++_) (sym (behind h t f));
+          shows = rw (behind h t f) shows;
+          ahead = omega (arith, p .low);
+          within = inside-text h t f;
+        }
+
+none-left : {at : ℕ} {ps : List (PlanPiece ℕ)} → Shows tokenLimit at [] ps → ps ≡ []
+none-left nothing = refl
+
+-- behind the last byte
+pub pass-end : {text : List ℕ} {from at : ℕ} → Passing text from at → length text ≤ at → (ps : List (PlanPiece ℕ)) → Shows tokenLimit from (drop from text) ps
+    → Walked text from End ps
+pass-end {text} {from} {at} p past ps s = none-left (subst (λ us. Shows tokenLimit at us ps) (drop-of-length-le text past) (p .still ps s))

@@ -1,0 +1,90 @@
+// One walk over an accepted text, piece by piece, for all that read such a text. What means nothing, SP and LF outside tokens, is passed
+// over here and nowhere else; no fault is looked for, since there is none.
+ghost use mathlib.Core.Path.{_≡_};
+ghost use Prim.Native.Nat.{ℕ, _+_, _<_};
+ghost use mathlib.Core.List.{List};
+ghost use lib.ListN.{length, drop};
+ghost use Rattle.kinds.specs.Limits.{textLimit, tokenLimit};
+ghost use Rattle.plan.specs.Pieces.{Found, Piece as PlanPiece, Shows};
+ghost use Rattle.items.specs.Walk.{Ahead, TokenFrom, Walked, one-byte, one-token};
+use kinds::Place;
+use kinds::Token;
+use pieces::Piece;
+use plan::Class;
+use text::class_of;
+
+mod tidy;
+
+pub use tidy::put_tidied;
+
+// Where a walk stands in the text.
+pub struct Cursor {
+    pub at: usize,
+}
+
+// The next piece with the place of its first byte, and the walk behind it.
+pub enum Step {
+    End,
+    Piece {
+        piece: Piece,
+        at: Place,
+        rest: Cursor,
+    },
+}
+
+// The place of the `}` that ends a token, from its first byte behind the `{` on.
+fn token_end(text: &[u8], from: usize) -> usize
+    requires { ⌜ ((t : List ℕ) × Found tokenLimit (drop from (now text)) t) ⌝ }
+    ensures { λ r. ⌜ ((t : List ℕ) → Found tokenLimit (drop from (now (text .entry))) t → r ≡ from + length t) ⌝ }
+{
+    let mut at = from;
+    while text[at] != b'}' {
+        at += 1;
+    }
+    at
+}
+
+fn token_piece(text: &[u8], at: usize) -> Step
+    requires { ⌜ TokenFrom (now text) at ⌝ }
+    ensures { λ r. ⌜ ((t : List ℕ) → Found tokenLimit (drop (at + 1) (now (text .entry))) t → r ≡ one-token at t) ⌝ }
+{
+    let end = token_end(text, at + 1);
+    let place = Place::new(at);
+    Step::Piece {
+        piece: Piece::Token(Token::new(place, end + 1 - at)),
+        at: place,
+        rest: Cursor { at: end + 1 },
+    }
+}
+
+// A piece of one byte.
+fn byte_piece(piece: Piece, at: usize) -> Step
+    requires { ⌜ at < textLimit ⌝ }
+    ensures { λ r. ⌜ r ≡ one-byte piece at ⌝ }
+{
+    Step::Piece {
+        piece,
+        at: Place::new(at),
+        rest: Cursor { at: at + 1 },
+    }
+}
+
+// The next piece of an accepted text, from the cursor on, or its end.
+pub fn next(text: &[u8], cursor: Cursor) -> Step
+    requires { ⌜ Ahead (now text) (cursor .at) ⌝ }
+    ensures { λ r. ⌜ ((ps : List (PlanPiece ℕ)) → Shows tokenLimit (cursor .at) (drop (cursor .at) (now (text .entry))) ps → Walked (now (text .entry)) (cursor .at) r ps) ⌝ }
+{
+    let mut at = cursor.at;
+    while at < text.len() {
+        match class_of(text[at]) {
+            Class::Blank => at += 1,
+            Class::Operator(operator) => return byte_piece(Piece::Operator(operator), at),
+            Class::Open => return byte_piece(Piece::Open, at),
+            Class::Close => return byte_piece(Piece::Close, at),
+            Class::Brace => return token_piece(text, at),
+            // An accepted text has no such byte.
+            Class::Bad => return Step::End,
+        }
+    }
+    Step::End
+}

@@ -1,0 +1,56 @@
+// The pieces of a plan as the code hands them about: what a text is walked by, what the work memory's chain shows, what is written to
+// an output. A token's bytes stay in the text.
+ghost use mathlib.Core.Path.{_≡_};
+ghost use Prim.Native.Nat.{_+_, _≤_};
+ghost use lib.ListN.{length, take, drop};
+ghost use Rattle.pieces.specs.Written.{piece-length, piece-bytes, put-at, InText};
+use kinds::Token;
+use plan::Operator;
+
+pub enum Piece {
+    Operator(Operator),
+    Token(Token),
+    Open,
+    Close,
+}
+
+impl Piece {
+    // How many bytes it prints.
+    pub fn length(self) -> u32
+        ensures { λ r. ⌜ r ≡ piece-length self ⌝ }
+    {
+        match self {
+            Piece::Operator(_) => 1,
+            Piece::Token(token) => token.len,
+            Piece::Open => 1,
+            Piece::Close => 1,
+        }
+    }
+}
+
+// Copies the bytes of a token of the text to the output, from the place `put` on.
+fn copy_token(text: &[u8], token: Token, out: &mut [u8], put: usize)
+    requires { ⌜ (token .at .0 + token .len ≤ length (now text)) × (put + token .len ≤ length (now out)) ⌝ }
+    ensures { λ r. ⌜ now (out .exit) ≡ put-at (now (out .entry)) put (take (token .len) (drop (token .at .0) (now (text .entry)))) ⌝ }
+{
+    let at = token.at.0 as usize;
+    let len = token.len as usize;
+    let mut done = 0;
+    while done < len {
+        out[put + done] = text[at + done];
+        done += 1;
+    }
+}
+
+// Writes a piece to the output, from the place `put` on.
+pub fn put_piece(text: &[u8], piece: Piece, out: &mut [u8], put: usize)
+    requires { ⌜ InText (now text) piece × (put + piece-length piece ≤ length (now out)) ⌝ }
+    ensures { λ r. ⌜ now (out .exit) ≡ put-at (now (out .entry)) put (piece-bytes (now (text .entry)) piece) ⌝ }
+{
+    match piece {
+        Piece::Operator(operator) => out[put] = operator.letter(),
+        Piece::Token(token) => copy_token(text, token, out, put),
+        Piece::Open => out[put] = b'[',
+        Piece::Close => out[put] = b']',
+    }
+}
