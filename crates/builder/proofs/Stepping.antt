@@ -10,7 +10,7 @@ use Rattle.plan.specs.Numbered.{operator-number}
 use Rattle.plan.specs.declared.Operator.{Operator as PlanOperator}
 use Rattle.pieces.specs.declared.Piece.{Piece}
 use Rattle.pieces.specs.declared.Piece.the-variants.{Operator, Token, Open, Close}
-use Rattle.memory.specs.Model.{Begun, Finds, PieceReady, Stepped, model, with-block, with-cell, with-close, with-end, with-item, with-piece, with-token}
+use Rattle.memory.specs.Model.{Begun, FindsCell, PieceReady, Stepped, model, with-block, with-cell, with-close, with-end, with-item, with-piece, with-token}
 use Rattle.memory.specs.declared.Build.{Build}
 use Rattle.memory.specs.declared.Port.{Port}
 
@@ -66,8 +66,8 @@ place-stored m m₁ m₂ b port at len is one two =
 
 -- a piece, by what a match found it to be
 module _ {m : List ℕ} {b : Build} {k : Piece} where
-  finds : (x : Piece) → k ≡ x → PieceReady m b k → Finds (b .free .0) (b .opened .0) (b .outer .0) x
-  finds x is r = subst (Finds (b .free .0) (b .opened .0) (b .outer .0)) is (r .finds)
+  finds : (x : Piece) → k ≡ x → PieceReady m b k → FindsCell (b .free .0) (b .opened .0) (b .outer .0) x
+  finds x is r = subst (FindsCell (b .free .0) (b .opened .0) (b .outer .0)) is (r .finds)
 
   pub operator-finds : {o : PlanOperator} → k ≡ Operator o → PieceReady m b k → b .free .0 < b .outer .0
   operator-finds is = finds (Operator _) is

@@ -12,7 +12,7 @@ use Rattle.plan.specs.Plan.{Plan, cells, labels}
 use Rattle.plan.specs.Pieces.{Piece, seen}
 use Rattle.pieces.specs.Written.{Is}
 use Rattle.memory.specs.Memory.{start, close, datum, link, block-kind, ports, Linked, Says, Below, Absent, Shared}
-use Rattle.memory.specs.Model.{Finds, Model}
+use Rattle.memory.specs.Model.{FindsCell, Model}
 use Rattle.memory.specs.Pieces.{Shown, piece-at}
 use Rattle.memory.proofs.Beside.{Agree, Kept, link-kept, linked-agree, says-agree}
 use Rattle.memory.proofs.Building.{finish-in}
@@ -39,7 +39,7 @@ pub record Going (text : List ℕ) (n : ℕ) (w₀ : List ℕ) (root stop : ℕ)
 
 pub record Turn (text : List ℕ) (n : ℕ) (w₀ : List ℕ) (root stop : ℕ) (t b : Plan ℕ) (s : Model) (port : ℕ) : Type 0 where
   pub below : port < start n
-  pub finds : Finds (s .free) (s .opened) n (piece-at (s .numbers) port)
+  pub finds : FindsCell (s .free) (s .opened) n (piece-at (s .numbers) port)
   pub ours : ¬ Absent (port / 2) (labels t)
   pub next : Going text n w₀ root stop t b (like s port) (link w₀ port)
   pub less : steps w₀ stop (2 * n) (link w₀ port) < steps w₀ stop (2 * n) port

@@ -6,7 +6,7 @@ use native.Mathlib.Omega.{arith}
 use lib.ListN.{length}
 use Rattle.kinds.specs.Limits.{cellNumbers}
 use Rattle.pieces.specs.declared.Piece.{Piece}
-use Rattle.memory.specs.Model.{Finds, PieceReady, Stepped, model, with-piece}
+use Rattle.memory.specs.Model.{FindsCell, PieceReady, Stepped, model, with-piece}
 use Rattle.memory.specs.Pieces.{piece-at}
 use Rattle.memory.specs.declared.Build.{Build}
 use Rattle.memory.proofs.Pieces.{piece-whole}
@@ -21,7 +21,7 @@ module _ {m : List ℕ} {b : Build} {port : ℕ} (r : LikeReady m b port) where
     found = e ∙ piece-whole (b .outer .0) m (b .first .0) port (r .ready .lent) (r .below)
 
     pub like-ready : PieceReady m b k
-    like-ready = record { ready = r .ready; finds = subst (Finds (b .free .0) (b .opened .0) (b .outer .0)) (sym found) (r .finds) }
+    like-ready = record { ready = r .ready; finds = subst (FindsCell (b .free .0) (b .opened .0) (b .outer .0)) (sym found) (r .finds) }
 
     pub like-stepped : {m′ : List ℕ} {b′ : Build} → Stepped m b m′ b′ (with-piece (model m b) k) → Stepped m b m′ b′ (like (model m b) port)
     unfolding like

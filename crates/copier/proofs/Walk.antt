@@ -11,7 +11,7 @@ use Rattle.kinds.specs.declared.Cell.{Cell}
 use Rattle.plan.specs.Plan.{Plan, labels}
 use Rattle.plan.proofs.Plans.{length-labels}
 use Rattle.memory.specs.Memory.{start, close, link, whole, Shared}
-use Rattle.memory.specs.Model.{Apart, Aside, Finds, Lent, Ready, Stepped, model}
+use Rattle.memory.specs.Model.{Apart, Aside, FindsCell, Lent, Ready, Stepped, model}
 use Rattle.memory.specs.Pieces.{piece-at}
 use Rattle.memory.specs.declared.Build.{Build}
 use Rattle.memory.specs.declared.Held.{Held}
@@ -120,7 +120,7 @@ module _ {text m₀ : List ℕ} {outer copy : Cell} {b₀ : Build} {stop port₀
         record {
           ready = walk-ready;
           below = omega arith;
-          finds = subst (λ z. Finds (b .free .0) (b .opened .0) z (piece-at (model m b .numbers) port)) (sym e) (this .finds);
+          finds = subst (λ z. FindsCell (b .free .0) (b .opened .0) z (piece-at (model m b .numbers) port)) (sym e) (this .finds);
         }
 
     pub port-low : port ≤ start (outer .0)

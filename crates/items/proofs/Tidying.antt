@@ -15,7 +15,7 @@ use Rattle.pieces.specs.Written.{piece-bytes, piece-length, put-at, InText}
 use Rattle.pieces.specs.declared.Piece.{Piece as CodePiece}
 use Rattle.pieces.proofs.Pieces.{is-in-text, is-printed, length-piece}
 use Rattle.pieces.proofs.Putting.{put-long, put-nothing, put-on}
-use Rattle.items.specs.Walk.{Ahead, Passed, Tidies, Walked}
+use Rattle.items.specs.Walk.{Ahead, Passed, Tidyable, Walked}
 use Rattle.items.specs.declared.Step.the-variants.{End}
 
 pub record Tidying (text out₀ : List ℕ) (from : ℕ) (out : List ℕ) (at put : ℕ) : Type 0 where
@@ -26,7 +26,7 @@ pub record Tidying (text out₀ : List ℕ) (from : ℕ) (out : List ℕ) (at pu
   pub put-at-end : put ≡ from + length gone
   pub holds : out ≡ put-at out₀ from gone
 
-pub tidy-first : {text out : List ℕ} {from : ℕ} → Tidies text out from → Tidying text out from out 0 from
+pub tidy-first : {text out : List ℕ} {from : ℕ} → Tidyable text out from → Tidying text out from out 0 from
 tidy-first {text} {out} {from} t =
     record {
       ahead = record { short = t .short; come = pieces (t .plan); shows = t .shows };

@@ -57,7 +57,7 @@ pub record TokenFrom (text : List ℕ) (at : ℕ) : Type 0 where
   pub found : Found tokenLimit (drop (at + 1) text) t
 
 -- the text shows the pieces of a plan, and its printed text has room in the output from the place on
-pub record Tidies (text out : List ℕ) (from : ℕ) : Type 0 where
+pub record Tidyable (text out : List ℕ) (from : ℕ) : Type 0 where
   pub short : length text ≤ textLimit
   pub plan : Plan ℕ
   pub shows : Shows tokenLimit 0 text (pieces plan)

@@ -5,7 +5,7 @@ ghost use Rattle.kinds.specs.Limits.{tokenLimit};
 ghost use Rattle.plan.specs.Plan.{Plan, print};
 ghost use Rattle.plan.specs.Pieces.{Shows, pieces};
 ghost use Rattle.pieces.specs.Written.{put-at};
-ghost use Rattle.items.specs.Walk.{Tidies};
+ghost use Rattle.items.specs.Walk.{Tidyable};
 use crate::Cursor;
 use crate::Step;
 use crate::next;
@@ -13,7 +13,7 @@ use pieces::put_piece;
 
 // Writes the pieces of an accepted text to the output, from the place `from` on.
 pub fn put_tidied(text: &[u8], out: &mut [u8], from: usize)
-    requires { ⌜ Tidies (now text) (now out) from ⌝ }
+    requires { ⌜ Tidyable (now text) (now out) from ⌝ }
     ensures { λ r. ⌜ ((p : Plan ℕ) → Shows tokenLimit 0 (now (text .entry)) (pieces p) → now (out .exit) ≡ put-at (now (out .entry)) from (print p)) ⌝ }
 {
     let mut cursor = Cursor { at: 0 };

@@ -13,7 +13,7 @@ use Rattle.plan.proofs.Plans.{cells-relabel}
 use Rattle.plan.proofs.Reached.{depth}
 use Rattle.pieces.specs.Written.{Is, is-operator, is-token, is-open, is-close}
 use Rattle.pieces.specs.declared.Piece.{Piece as CodePiece}
-use Rattle.memory.specs.Model.{Built, Finds, Model, with-piece}
+use Rattle.memory.specs.Model.{Built, FindsCell, Model, with-piece}
 use Rattle.memory.proofs.Beside.{Kept, block-kept, item-kept, link-kept, token-kept}
 use Rattle.memory.proofs.Building.{close-block, has-room, open-block, put-operator, put-token}
 use Rattle.memory.proofs.Steps.{opened-lent}
@@ -50,7 +50,7 @@ counted gone come p all =
 
 -- one piece is put, and what is in use elsewhere stays as it was
 pub record Put (text : List ℕ) (n root : ℕ) (others : List ℕ) (p : Plan ℕ) (s : Model) (k : CodePiece) (come : List (Piece ℕ)) : Type 0 where
-  pub finds : Finds (s .free) (s .opened) n k
+  pub finds : FindsCell (s .free) (s .opened) n k
   pub placed : Placed text n root others p (with-piece s k) come
   pub kept : Kept n root others (s .numbers) (with-piece s k .numbers)
 

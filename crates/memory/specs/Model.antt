@@ -117,15 +117,15 @@ with-piece s Open = with-block s
 with-piece s Close = with-close s
 
 -- a piece finds a free cell, or, to close, an open block
-abbrev pub Finds : (free opened n : ℕ) → Piece → Type 0
-Finds free opened n (Operator o) = free < n
-Finds free opened n (Token t) = free < n
-Finds free opened n Open = free < n
-Finds free opened n Close = opened < n
+abbrev pub FindsCell : (free opened n : ℕ) → Piece → Type 0
+FindsCell free opened n (Operator o) = free < n
+FindsCell free opened n (Token t) = free < n
+FindsCell free opened n Open = free < n
+FindsCell free opened n Close = opened < n
 
 pub record PieceReady (m : List ℕ) (b : Build) (k : Piece) : Type 0 where
   pub ready : Ready m b
-  pub finds : Finds (b .free .0) (b .opened .0) (b .outer .0) k
+  pub finds : FindsCell (b .free .0) (b .opened .0) (b .outer .0) k
 
 -- a block begun in the first free cell, that no port links to: what is put then is its inside
 pub record Apart (m : List ℕ) (h : Held) (m′ : List ℕ) (b : Build) : Type 0 where

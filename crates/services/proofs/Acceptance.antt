@@ -20,7 +20,7 @@ use Rattle.plan.proofs.Slots.{accepted-text}
 use Rattle.reader.specs.Counting.{surveyed}
 use Rattle.pieces.specs.Written.{put-at}
 use Rattle.pieces.proofs.Putting.{put-front}
-use Rattle.items.specs.Walk.{Tidies as Tidying}
+use Rattle.items.specs.Walk.{Tidyable}
 use Rattle.services.specs.Calls.{Checks, Tidies}
 use Rattle.reader.specs.declared.Surveyed.{Surveyed}
 use Rattle.reader.specs.declared.Surveyed.the-variants.{Accepted, Refused as RefusedText}
@@ -84,7 +84,7 @@ module _ (text : List ℕ) where
 
     -- a text that is found acceptable, and an output
     module _ {c l : ℕ} (out : List ℕ) (e : s ≡ Accepted c l) where
-      pub tidy-fits : l ≤ length out → Tidying text out 0
+      pub tidy-fits : l ≤ length out → Tidyable text out 0
       tidy-fits h =
           let r = reads-accepted e in
           record { short = r .short; plan = r .plan; shows = read-accepted tokenLimit cellLimit text (r .read-as) .shows; room = omega (arith, r .long) }
