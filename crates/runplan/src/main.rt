@@ -1,9 +1,10 @@
 // Runs a plan: reads it from standard input, runs it with a quota of 10,000 and 4,096 cells, and writes what is left of it,
-// then a line with the five numbers of the answer. After a refusal there is no text, and the first line is empty.
-use io::read_full;
+// then a line with the five numbers of the answer. After a refusal there is no text, and the first line is empty. What cannot be
+// read or written is said on standard error.
+use input::Input;
+use input::read_whole;
 use io::write_all;
 use kinds::Cell;
-use libc::STDIN_FILENO;
 use libc::STDOUT_FILENO;
 use telling::tell_numbers;
 use telling::tell_printed;
@@ -15,37 +16,68 @@ const MEMORY: usize = Cell::NUMBERS * Cell::LIMIT;
 // Each of the two text buffers.
 const TEXT: usize = 65_536;
 
-// Whether standard input goes on after so many bytes. Only where they fill the buffer is there something to ask: an input
-// that was shorter has ended.
-fn goes_on(read: usize) -> bool {
+// What stands behind the bytes that were read.
+enum Behind {
+    Nothing,
+    More,
+    Failed,
+}
+
+// Only where the bytes fill the buffer is there something to ask: an input that was shorter has ended.
+fn look_behind(read: usize) -> Behind {
     if read < TEXT {
-        return false;
+        return Behind::Nothing;
     }
     let mut next = [0u8; 1];
-    0 < read_full(STDIN_FILENO, &mut next)
-}
-
-fn run_text(text: &[u8], memory: &mut [u32], output: &mut [u8]) {
-    let answer = services::run(text, QUOTA, memory, output);
-    tell_printed(answer, output);
-    write_all(STDOUT_FILENO, b"\n");
-    tell_numbers(answer);
-    write_all(STDOUT_FILENO, b"\n");
-}
-
-fn run_input(input: &mut [u8], memory: &mut [u32], output: &mut [u8]) {
-    let read = read_full(STDIN_FILENO, input);
-    if goes_on(read) {
-        write_all(STDOUT_FILENO, b"input too long\n");
-        return;
+    match read_whole(&mut next) {
+        Input::Failed => Behind::Failed,
+        Input::Read(more) => {
+            if 0 < more {
+                Behind::More
+            } else {
+                Behind::Nothing
+            }
+        }
     }
-    run_text(&input[0..read], memory, output);
+}
+
+// Whether all could be written.
+fn run_text(text: &[u8], memory: &mut [u32], output: &mut [u8]) -> bool {
+    let answer = services::run(text, QUOTA, memory, output);
+    if !tell_printed(answer, output) {
+        return false;
+    }
+    if !write_all(STDOUT_FILENO, b"\n") {
+        return false;
+    }
+    if !tell_numbers(answer) {
+        return false;
+    }
+    write_all(STDOUT_FILENO, b"\n")
+}
+
+// An input that could not be read to its end is not run, and what failed is said on standard error.
+fn run_input(input: &mut [u8], memory: &mut [u32], output: &mut [u8]) -> bool {
+    let Input::Read(read) = read_whole(input) else {
+        os::fail(b"runplan: standard input");
+        return true;
+    };
+    match look_behind(read) {
+        Behind::Failed => {
+            os::fail(b"runplan: standard input");
+            true
+        }
+        Behind::More => write_all(STDOUT_FILENO, b"input too long\n"),
+        Behind::Nothing => run_text(&input[0..read], memory, output),
+    }
 }
 
 // Lends each buffer as a slice. Behind a reference its length is known by its type; in `main` a proof would go through
 // its zeros one by one.
 fn lend(input: &mut [u8; TEXT], memory: &mut [u32; MEMORY], output: &mut [u8; TEXT]) {
-    run_input(input, memory, output);
+    if !run_input(input, memory, output) {
+        os::fail(b"runplan: standard output");
+    }
 }
 
 fn main() {

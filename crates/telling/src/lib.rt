@@ -12,19 +12,29 @@ fn wide(number: u32) -> u64 {
     number as u64
 }
 
-fn tell_next(number: u32) {
-    write_all(STDOUT_FILENO, b" ");
-    print_decimal(STDOUT_FILENO, wide(number));
+fn tell_next(number: u32) -> bool {
+    if !write_all(STDOUT_FILENO, b" ") {
+        return false;
+    }
+    print_decimal(STDOUT_FILENO, wide(number))
 }
 
-// Number, steps, cells, length and place in decimal, with one SP between.
-pub fn tell_numbers(answer: Answer) {
+// Number, steps, cells, length and place in decimal, with one SP between; whether all could be written.
+pub fn tell_numbers(answer: Answer) -> bool {
     let numbers = answer.numbers();
-    print_decimal(STDOUT_FILENO, wide(numbers.number));
-    tell_next(numbers.steps);
-    tell_next(numbers.cells);
-    tell_next(numbers.length);
-    tell_next(numbers.place);
+    if !print_decimal(STDOUT_FILENO, wide(numbers.number)) {
+        return false;
+    }
+    if !tell_next(numbers.steps) {
+        return false;
+    }
+    if !tell_next(numbers.cells) {
+        return false;
+    }
+    if !tell_next(numbers.length) {
+        return false;
+    }
+    tell_next(numbers.place)
 }
 
 // How many bytes of the output are the printed text; a refusal has none.
@@ -35,10 +45,10 @@ pub fn printed_length(answer: Answer) -> usize
     numbers.length as usize
 }
 
-// The printed text, which the output holds first.
-pub fn tell_printed(answer: Answer, output: &[u8])
+// The printed text, which the output holds first; whether all of it could be written.
+pub fn tell_printed(answer: Answer, output: &[u8]) -> bool
     requires { ⌜ numbers answer .length ≤ length (now output) ⌝ }
 {
     let length = printed_length(answer);
-    write_all(STDOUT_FILENO, &output[0..length]);
+    write_all(STDOUT_FILENO, &output[0..length])
 }

@@ -18,6 +18,8 @@ use bytes::scan::find;
 use check::same;
 use form::Case;
 use form::expand;
+use input::Input;
+use input::read_whole;
 use kinds::Cell;
 use kinds::Place;
 use kinds::Token;
@@ -25,7 +27,6 @@ use lending::all_zero;
 use lending::fill_memory;
 use lending::fill_output;
 use lending::untouched;
-use libc::STDIN_FILENO;
 use libc::STDOUT_FILENO;
 use plan::Answer;
 use report::Outcome;
@@ -205,7 +206,10 @@ fn run_input(
     output: &mut [u8],
     expected: &mut [u8],
 ) {
-    let read = io::read_full(STDIN_FILENO, input);
+    let Input::Read(read) = read_whole(input) else {
+        os::fail(b"vectors: standard input");
+        return;
+    };
     if input.len() <= read {
         io::write_all(STDOUT_FILENO, b"input too long\n");
         return;
