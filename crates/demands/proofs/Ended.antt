@@ -9,6 +9,7 @@ use lib.ListN.{length, drop}
 use lib.Seq.{take-append-seam}
 use Rattle.kinds.specs.Limits.{cellLimit}
 use Rattle.plan.specs.declared.Answer.{Answer}
+use Rattle.plan.specs.declared.Answer.the-variants.{Ran, Read, Refused}
 use Rattle.plan.specs.declared.Ending.{Ending}
 use Rattle.plan.specs.declared.Ending.the-variants.{Done, Quota, Full}
 use Rattle.plan.specs.declared.Refusal.the-variants.{OutShort}
@@ -145,3 +146,25 @@ tidy-reads-prints {text} {out} call unrefused = go (tidy-case call) unrefused
     go (out-short {p} h short) u = absurd (omega (arith, refusal-over (OutShort (length (print p)))))
     go (is-read {p} h fits) u =
         (p, h, refl, refl, refl, rw (take-append-seam (print p) (drop (length (print p)) out)) (sound-back (reads-sound h)))
+
+-- "Steps are 0 for CHECK and TIDY", whatever they answer,
+pub check-steps : {text : List ℕ} {r : Answer} → Checks text r → numbers r .steps ≡ 0
+check-steps {text} call = go (check-case call)
+  where
+    go : {r : Answer} → CheckCase text r → numbers r .steps ≡ 0
+    go (bad-text h) = refl
+    go (is-read h) = refl
+
+pub tidy-steps : {text out : List ℕ} {r : Answer} {out′ : List ℕ} → Tidies text out r out′ → numbers r .steps ≡ 0
+tidy-steps {text} {out} call = go (tidy-case call)
+  where
+    go : {r : Answer} {out′ : List ℕ} → TidyCase text out r out′ → numbers r .steps ≡ 0
+    go (bad-text h) = refl
+    go (out-short h short) = refl
+    go (is-read h fits) = refl
+
+-- and the place is 0 for DONE, QUOTA, FULL and READ, whichever service answers so.
+pub unrefused-place : (r : Answer) → Unrefused r → numbers r .place ≡ 0
+unrefused-place (Ran e steps c l) u = refl
+unrefused-place (Read c l) u = refl
+unrefused-place (Refused x) u = absurd (omega (arith, refusal-over x))

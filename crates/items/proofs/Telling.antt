@@ -11,7 +11,7 @@ use Rattle.kinds.specs.declared.Place.{Place}
 use Rattle.kinds.specs.declared.Token.{Token as TextToken}
 use Rattle.plan.specs.Plan.{close-brace, open-brace}
 use Rattle.plan.specs.Pieces.{Found, Piece as PlanPiece, OP, TOKEN, BEGIN, END, Shows, nothing, blank, an-operator, a-token, opens, closes, piece-print}
-use Rattle.plan.specs.Reading.{class}
+use Rattle.plan.specs.Reading.{Byte, class}
 use Rattle.plan.specs.declared.Class.{Class}
 use Rattle.plan.specs.declared.Class.the-variants.{
   Operator as OPERATOR,
@@ -22,7 +22,7 @@ use Rattle.plan.specs.declared.Class.the-variants.{
   Bad as BAD,
 }
 use Rattle.plan.specs.declared.Operator.{Operator}
-use Rattle.plan.proofs.Classes.{Byte, class-byte}
+use Rattle.plan.proofs.Classes.{class-byte}
 use Rattle.plan.proofs.Tokens.{allowed-parts}
 use Rattle.pieces.specs.Written.{Is, is-operator, is-token, is-open, is-close, TokenAt}
 use Rattle.pieces.specs.declared.Piece.{Piece as CodePiece}

@@ -1,30 +1,30 @@
--- The class of a byte says which byte it is, but for the refused ones.
+-- The class of a byte says which byte it is, and for the refused ones which it is not.
 use Prim.Native.Nat.{ℕ}
 use mathlib.Core.Path.{_≡_, _∙_, refl, ap, subst}
-use mathlib.Core.Logic.{_⊎_, _≢_, inl, inr}
+use mathlib.Core.Logic.{_↔_, _≢_, inl, inr, ⊎-elim}
 use mathlib.Core.Bool.{Bool, true, false, not, _||_}
 use lib.Dec.{T, T-not, eqb, eqb-refl}
-use borrow.Author.Tests.{eqb-true, ne-eqb}
+use borrow.Author.Tests.{eqb-true, eqb-false, ne-eqb}
 use Rattle.plan.specs.Plan.{Operator, op-a, op-b, op-c, op-d, letter, open-bracket, close-bracket, open-brace}
-use Rattle.plan.specs.Reading.{Class, OPERATOR, OPEN, CLOSE, BRACE, BLANK, BAD, class}
+use Rattle.plan.specs.Reading.{Class, OPERATOR, OPEN, CLOSE, BRACE, BLANK, BAD, class, Byte}
 use Rattle.plan.proofs.Tests.{cond-cases}
-
-abbrev pub Byte : Class → ℕ → Type 0
-Byte (OPERATOR o) b = b ≡ letter o
-Byte OPEN b = b ≡ open-bracket
-Byte CLOSE b = b ≡ close-bracket
-Byte BRACE b = b ≡ open-brace
-Byte BLANK b = (b ≡ 32) ⊎ (b ≡ 10)
-Byte BAD b = Unit {0}
 
 pub class-byte : (b : ℕ) → Byte (class b) b
 unfolding class letter
 class-byte b =
     let P : Class → Type 0 = λ c. Byte c b in
     let is : (k : ℕ) → eqb b k ≡ true → b ≡ k = λ k. eqb-true b k in
-    cond-cases P _ (is 97) λ _. cond-cases P _ (is 98) λ _. cond-cases P _ (is 99) λ _. cond-cases P _ (is 100) λ _.
-    cond-cases P _ (is open-bracket) λ _. cond-cases P _ (is close-bracket) λ _. cond-cases P _ (is open-brace) λ _.
-    cond-cases P _ (λ e. inl (is 32 e)) λ _. cond-cases P _ (λ e. inr (is 10 e)) λ _. tt
+    let not : (k : ℕ) → eqb b k ≡ false → b ≢ k = λ k. eqb-false b k in
+    cond-cases P _ (is 97) λ a. cond-cases P _ (is 98) λ b′. cond-cases P _ (is 99) λ c. cond-cases P _ (is 100) λ d.
+    cond-cases P _ (is open-bracket) λ opens. cond-cases P _ (is close-bracket) λ closes. cond-cases P _ (is open-brace) λ brace.
+    cond-cases P _ (λ e. inl (is 32 e)) λ sp. cond-cases P _ (λ e. inr (is 10 e)) λ lf.
+    (none-of a b′ c d, not open-bracket opens, not close-bracket closes, not open-brace brace, not 32 sp, not 10 lf)
+  where
+    none-of : eqb b 97 ≡ false → eqb b 98 ≡ false → eqb b 99 ≡ false → eqb b 100 ≡ false → (o : Operator) → b ≢ letter o
+    none-of a b′ c d op-a = eqb-false b 97 a
+    none-of a b′ c d op-b = eqb-false b 98 b′
+    none-of a b′ c d op-c = eqb-false b 99 c
+    none-of a b′ c d op-d = eqb-false b 100 d
 
 pub class-letter : (o : Operator) → class (letter o) ≡ OPERATOR o
 unfolding class letter
@@ -45,6 +45,27 @@ class-close = refl
 pub class-brace : class open-brace ≡ BRACE
 unfolding class
 class-brace = refl
+
+-- Each byte has exactly one class, the refused one too: that in whose row it stands.
+pub class-exactly-when : (b : ℕ) (c : Class) → (class b ≡ c) ↔ Byte c b
+unfolding class
+class-exactly-when b c = (λ e. subst (λ k. Byte k b) e (class-byte b), has c)
+  where
+    refused : (k : Class) → Byte k b → Byte BAD b → k ≡ BAD
+    refused (OPERATOR o) h none = absurd (none .0 o h)
+    refused OPEN h none = absurd (none .1 h)
+    refused CLOSE h none = absurd (none .2 h)
+    refused BRACE h none = absurd (none .3 h)
+    refused BLANK h none = absurd (⊎-elim (none .4) (none .5) h)
+    refused BAD h none = refl
+
+    has : (c : Class) → Byte c b → class b ≡ c
+    has (OPERATOR o) e = ap class e ∙ class-letter o
+    has OPEN e = ap class e ∙ class-open
+    has CLOSE e = ap class e ∙ class-close
+    has BRACE e = ap class e ∙ class-brace
+    has BLANK e = ⊎-elim (ap class) (ap class) e
+    has BAD none = refused (class b) (class-byte b) none
 
 -- different classes have different ranks
 abbrev pub rank : Class → ℕ

@@ -50,6 +50,11 @@ unfolding under
 under-under f g none = refl
 under-under f g (some a) = refl
 
+pub under-same : {A B : Type 0} (f g : A → B) → ((a : A) → f a ≡ g a) → (x : Option A) → under f x ≡ under g x
+unfolding under
+under-same f g same none = refl
+under-same f g same (some a) = ap some (same a)
+
 -- two ways round a square
 pub under-square : {A B C D : Type 0} (f : A → B) (g : B → D) (h : A → C) (k : C → D) → ((a : A) → g (f a) ≡ k (h a)) →
     (x : Option A) → under g (under f x) ≡ under k (under h x)

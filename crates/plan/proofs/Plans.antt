@@ -1,10 +1,10 @@
 -- Laws of a plan's parts: joining, cells, the printed text, labels.
 use Prim.Native.Nat.{ℕ, _+_}
-use mathlib.Core.Path.{_≡_, refl, ap}
-use mathlib.Core.List.{_∷_, _++_, append-assoc}
+use mathlib.Core.Path.{_≡_, refl, ap, _∙_}
+use mathlib.Core.List.{List, _∷_, _++_, append-assoc}
 use native.Mathlib.Omega.{arith}
 use lib.ListN.{length, length-append}
-use Rattle.plan.specs.Plan.{Plan, end, operator, token, block, _then_, cells, letter, print, labels, relabel}
+use Rattle.plan.specs.Plan.{Plan, end, operator, token, block, _then_, cells, letter, print, labels, relabel, changed}
 use Rattle.plan.specs.Token.{Allowed}
 
 module _ {L : Type 0} where
@@ -58,21 +58,36 @@ module _ {L : Type 0} where
   length-labels (token l t p) = omega (arith, length-labels p)
   length-labels (block l b p) = omega (arith, length-labels b, length-labels p, length-append (labels b) (labels p))
 
--- no definition of a plan's parts looks at a label
+-- joining and counting look at no label and at no token's text
+module _ {L M : Type 0} (f : L → M) (g : List ℕ → List ℕ) where
+  pub changed-then : (p q : Plan L) → changed f g (p then q) ≡ changed f g p then changed f g q
+  unfolding _then_ changed
+  changed-then end q = refl
+  changed-then (operator l o p) q = ap (operator (f l) o) (changed-then p q)
+  changed-then (token l t p) q = ap (token (f l) (g t)) (changed-then p q)
+  changed-then (block l b p) q = ap (block (f l) (changed f g b)) (changed-then p q)
+
+  pub cells-changed : (p : Plan L) → cells (changed f g p) ≡ cells p
+  unfolding cells changed
+  cells-changed end = refl
+  cells-changed (operator l o p) = omega (arith, cells-changed p)
+  cells-changed (token l t p) = omega (arith, cells-changed p)
+  cells-changed (block l b p) = omega (arith, cells-changed b, cells-changed p)
+
+-- printing looks at no label
 module _ {L M : Type 0} (f : L → M) where
+  pub relabel-changed : (p : Plan L) → relabel f p ≡ changed f (λ t. t) p
+  unfolding relabel changed
+  relabel-changed end = refl
+  relabel-changed (operator l o p) = ap (operator (f l) o) (relabel-changed p)
+  relabel-changed (token l t p) = ap (token (f l) t) (relabel-changed p)
+  relabel-changed (block l b p) = rw (relabel-changed b, relabel-changed p)
+
   pub relabel-then : (p q : Plan L) → relabel f (p then q) ≡ relabel f p then relabel f q
-  unfolding _then_ relabel
-  relabel-then end q = refl
-  relabel-then (operator l o p) q = ap (operator (f l) o) (relabel-then p q)
-  relabel-then (token l t p) q = ap (token (f l) t) (relabel-then p q)
-  relabel-then (block l b p) q = ap (block (f l) (relabel f b)) (relabel-then p q)
+  relabel-then p q = rw (relabel-changed (p then q), relabel-changed p, relabel-changed q) (changed-then f (λ t. t) p q)
 
   pub cells-relabel : (p : Plan L) → cells (relabel f p) ≡ cells p
-  unfolding cells relabel
-  cells-relabel end = refl
-  cells-relabel (operator l o p) = omega (arith, cells-relabel p)
-  cells-relabel (token l t p) = omega (arith, cells-relabel p)
-  cells-relabel (block l b p) = omega (arith, cells-relabel b, cells-relabel p)
+  cells-relabel p = ap cells (relabel-changed p) ∙ cells-changed f (λ t. t) p
 
   pub print-relabel : (p : Plan L) → print (relabel f p) ≡ print p
   unfolding print relabel

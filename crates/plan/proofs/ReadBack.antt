@@ -3,6 +3,7 @@
 use Prim.Native.Nat.{ℕ, suc, _+_, _*_, _≤_}
 use mathlib.Core.Path.{_≡_, refl, ap, ap₂, sym, subst, _∙_}
 use mathlib.Core.Bool.{true, false}
+use mathlib.Core.Logic.{_↔_}
 use mathlib.Core.List.{List, [], _∷_, _++_, append-nil, append-assoc}
 use native.Mathlib.Omega.{arith}
 use lib.ListN.{length, length-append}
@@ -28,7 +29,7 @@ use Rattle.plan.specs.Token.{allowed, Allowed}
 use Rattle.plan.specs.Reading.{Around, outermost, inside, go-on, move, past-token, PLAN, read-from, fit, read, without-blanks}
 use Rattle.plan.specs.Pieces.{Shows, pieces, placed}
 use Rattle.plan.proofs.Classes.{class-letter, class-open, class-close, class-brace}
-use Rattle.plan.proofs.Plans.{then-end, then-assoc, cells-relabel}
+use Rattle.plan.proofs.Plans.{then-end, then-assoc, cells-relabel, print-relabel}
 use Rattle.plan.proofs.Reached.{moved, skip-token, text-read}
 use Rattle.plan.proofs.Refusals.{plan-injective, read-faultless}
 use Rattle.plan.proofs.Tokens.{allowed-parts, token-text-at}
@@ -80,6 +81,9 @@ module _ {L : Type 0} where
   pub cells-placed : (at : ℕ) (p : Plan L) → cells (placed at p) ≡ cells p
   cells-placed at p = sym (cells-relabel (λ l. tt) (placed at p)) ∙ ap cells (bare-placed at p) ∙ cells-relabel (λ l. tt) p
 
+  pub print-placed : (at : ℕ) (p : Plan L) → print (placed at p) ≡ print p
+  print-placed at p = sym (print-relabel (λ l. tt) (placed at p)) ∙ ap print (bare-placed at p) ∙ print-relabel (λ l. tt) p
+
   -- reading the printed text of a plan whose tokens are allowed gives the plan back, but for its labels
   pub read-print : (limit n : ℕ) (p : Plan L) → Allowed limit p → cells p ≤ n → read limit n (print p) ≡ PLAN (placed 0 p)
   unfolding read fit _then_ read-from
@@ -97,6 +101,12 @@ print-injective limit p q hp hq e =
     plan-injective
     (sym (read-print limit n p hp (omega arith)) ∙ ap (read limit n) e ∙ read-print limit n q hq (omega arith)) in
     sym (bare-placed 0 p) ∙ ap bare same ∙ bare-placed 0 q
+
+-- two plans are equal, labels aside, exactly when their printed texts are equal
+pub equal-iff-print : {L M : Type 0} (limit : ℕ) (p : Plan L) (q : Plan M) → Allowed limit p → Allowed limit q
+    → (bare p ≡ bare q) ↔ (print p ≡ print q)
+equal-iff-print limit p q hp hq =
+    (λ e. sym (print-relabel (λ l. tt) p) ∙ ap print e ∙ print-relabel (λ l. tt) q, print-injective limit p q hp hq)
 
 -- What is read has only allowed tokens and no more cells than were lent, and is printed as the text without its blanks.
 pub record Accepted (limit n : ℕ) (text : List ℕ) (p : Plan ℕ) : Type 0 where
@@ -116,6 +126,11 @@ read-accepted limit n text {p} e =
       printed = ap print (sym same) ∙ r .printed;
       shows = subst (λ q. Shows limit 0 text (pieces q)) same (r .shows);
     }
+
+-- The printed text of a plan has no SP or LF outside tokens: taking them out takes out nothing.
+pub print-no-blanks : {L : Type 0} (limit : ℕ) (p : Plan L) → Allowed limit p → without-blanks false (print p) ≡ print p
+print-no-blanks limit p h =
+    sym (read-accepted limit (cells p) (print p) (read-print limit (cells p) p h (omega arith)) .printed) ∙ print-placed 0 p
 
 -- A token is no longer than its limit and every other cell prints two bytes at most.
 pub print-bound : {L : Type 0} (limit : ℕ) (p : Plan L) → 2 ≤ limit → Allowed limit p → length (print p) ≤ limit * cells p

@@ -3,6 +3,7 @@ use Prim.Native.Nat.{ℕ, _+_, _<_}
 use mathlib.Core.Path.{_≡_, refl, ap, sym, _∙_}
 use mathlib.Core.Logic.{_↔_, _⊎_, inl, inr, ⊎-elim, ⊎-map}
 use mathlib.Core.Option.{Option, none, some, IsSome}
+use mathlib.Core.List.{List}
 use native.Mathlib.Omega.{arith}
 use Rattle.plan.specs.Plan.{
   op-a,
@@ -17,6 +18,8 @@ use Rattle.plan.specs.Plan.{
   _then_,
   cells,
   relabel,
+  changed,
+  renamed,
   WithoutC,
 }
 use Rattle.plan.specs.Token.{Allowed}
@@ -37,8 +40,8 @@ use Rattle.plan.specs.Rewriting.{
   next,
 }
 use Rattle.plan.specs.Options.{_else_, under}
-use Rattle.plan.proofs.Options.{Each, else-each, else-left, else-right, else-either, under-each, under-is-some, under-else, under-square, under-under, some-under, else-front}
-use Rattle.plan.proofs.Plans.{allowed-then, cells-then, relabel-then, then-assoc}
+use Rattle.plan.proofs.Options.{Each, else-each, else-left, else-right, else-either, under-each, under-is-some, under-else, under-same, under-square, under-under, some-under, else-front}
+use Rattle.plan.proofs.Plans.{allowed-then, cells-then, changed-then, relabel-changed, then-assoc}
 
 -- The next rewrite is one of the four rules' ..
 module _ {L : Type 0} where
@@ -186,59 +189,82 @@ module _ {L : Type 0} where
   step-smaller (past-block s) h = omega (arith, step-smaller s (h .1))
   step-smaller (within s) h = omega (arith, step-smaller s (h .0))
 
--- No rule and no choice looks at a label.
-module _ {L M : Type 0} (f : L → M) where
-  pub after-two-relabel : (l : L) (B : Plan L) (m : L) (A p : Plan L) →
-      after-two (f l) (relabel f B) (f m) (relabel f A) (relabel f p) ≡ under (relabel f) (after-two l B m A p)
-  unfolding after-two under relabel
-  after-two-relabel l B m A end = refl
-  after-two-relabel l B m A (operator n op-a p) = rw (relabel-then f A (block l B p))
-  after-two-relabel l B m A (operator n op-b p) = refl
-  after-two-relabel l B m A (operator n op-c p) = refl
-  after-two-relabel l B m A (operator n op-d p) = refl
-  after-two-relabel l B m A (token n t p) = refl
-  after-two-relabel l B m A (block n C p) = refl
+-- No rule and no choice looks at a label or at a token's text.
+module _ {L M : Type 0} (f : L → M) (g : List ℕ → List ℕ) where
+  pub after-two-changed : (l : L) (B : Plan L) (m : L) (A p : Plan L) →
+      after-two (f l) (changed f g B) (f m) (changed f g A) (changed f g p) ≡ under (changed f g) (after-two l B m A p)
+  unfolding after-two under changed
+  after-two-changed l B m A end = refl
+  after-two-changed l B m A (operator n op-a p) = rw (changed-then f g A (block l B p))
+  after-two-changed l B m A (operator n op-b p) = refl
+  after-two-changed l B m A (operator n op-c p) = refl
+  after-two-changed l B m A (operator n op-d p) = refl
+  after-two-changed l B m A (token n t p) = refl
+  after-two-changed l B m A (block n C p) = refl
 
-  pub first-block-relabel : (l : L) (A p : Plan L) →
-      first-block (f l) (relabel f A) (relabel f p) ≡ under (relabel f) (first-block l A p)
-  unfolding first-block under relabel
-  first-block-relabel l A end = refl
-  first-block-relabel l A (operator n op-a p) = refl
-  first-block-relabel l A (operator n op-b p) = refl
-  first-block-relabel l A (operator n op-c p) = refl
-  first-block-relabel l A (operator n op-d p) = refl
-  first-block-relabel l A (token n t p) = refl
-  first-block-relabel l A (block m B p) = after-two-relabel l A m B p
+  pub first-block-changed : (l : L) (A p : Plan L) →
+      first-block (f l) (changed f g A) (changed f g p) ≡ under (changed f g) (first-block l A p)
+  unfolding first-block under changed
+  first-block-changed l A end = refl
+  first-block-changed l A (operator n op-a p) = refl
+  first-block-changed l A (operator n op-b p) = refl
+  first-block-changed l A (operator n op-c p) = refl
+  first-block-changed l A (operator n op-d p) = refl
+  first-block-changed l A (token n t p) = refl
+  first-block-changed l A (block m B p) = after-two-changed l A m B p
 
-  -- what stands before a rewrite or around it is relabelled with it
-  pub under-relabel : (c : Plan L → Plan L) (d : Plan M → Plan M) → ((p : Plan L) → d (relabel f p) ≡ relabel f (c p)) →
-      (x : Option (Plan L)) {y : Option (Plan M)} → y ≡ under (relabel f) x → under d y ≡ under (relabel f) (under c x)
-  under-relabel c d same x h = rw h (under-square (relabel f) d c (relabel f) same x)
+  -- what stands before a rewrite or around it is changed with it
+  pub under-changed : (c : Plan L → Plan L) (d : Plan M → Plan M) → ((p : Plan L) → d (changed f g p) ≡ changed f g (c p)) →
+      (x : Option (Plan L)) {y : Option (Plan M)} → y ≡ under (changed f g) x → under d y ≡ under (changed f g) (under c x)
+  under-changed c d same x h = rw h (under-square (changed f g) d c (changed f g) same x)
 
-  pub outer-relabel : (p : Plan L) → outer (relabel f p) ≡ under (relabel f) (outer p)
-  unfolding outer relabel under
-  outer-relabel end = refl
-  outer-relabel (operator l o p) = under-relabel (operator l o) _ (λ q. refl) (outer p) (outer-relabel p)
-  outer-relabel (token l t p) = under-relabel (token l t) _ (λ q. refl) (outer p) (outer-relabel p)
-  outer-relabel (block l A p) =
-      let after = under-relabel (block l A) (block (f l) (relabel f A)) (λ q. refl) (outer p) (outer-relabel p) in
-      under-else (relabel f) (first-block l A p) _ (first-block-relabel l A p) after
+  pub outer-changed : (p : Plan L) → outer (changed f g p) ≡ under (changed f g) (outer p)
+  unfolding outer changed under
+  outer-changed end = refl
+  outer-changed (operator l o p) = under-changed (operator l o) _ (λ q. refl) (outer p) (outer-changed p)
+  outer-changed (token l t p) = under-changed (token l t) _ (λ q. refl) (outer p) (outer-changed p)
+  outer-changed (block l A p) =
+      let after = under-changed (block l A) (block (f l) (changed f g A)) (λ q. refl) (outer p) (outer-changed p) in
+      under-else (changed f g) (first-block l A p) _ (first-block-changed l A p) after
 
-  pub inner-relabel : (p : Plan L) → inner (relabel f p) ≡ under (relabel f) (inner p)
-  unfolding inner relabel under
-  inner-relabel end = refl
-  inner-relabel (operator l o p) = under-relabel (operator l o) _ (λ q. refl) (inner p) (inner-relabel p)
-  inner-relabel (token l t p) = under-relabel (token l t) _ (λ q. refl) (inner p) (inner-relabel p)
-  inner-relabel (block l A p) =
-      let inside = under-else (relabel f) (outer A) (inner A) (outer-relabel A) (inner-relabel A) in
+  pub inner-changed : (p : Plan L) → inner (changed f g p) ≡ under (changed f g) (inner p)
+  unfolding inner changed under
+  inner-changed end = refl
+  inner-changed (operator l o p) = under-changed (operator l o) _ (λ q. refl) (inner p) (inner-changed p)
+  inner-changed (token l t p) = under-changed (token l t) _ (λ q. refl) (inner p) (inner-changed p)
+  inner-changed (block l A p) =
+      let inside = under-else (changed f g) (outer A) (inner A) (outer-changed A) (inner-changed A) in
       let found = outer A else inner A in
-      let around = under-relabel (λ B. block l B p) (λ B. block (f l) B (relabel f p)) (λ q. refl) found inside in
-      let after = under-relabel (block l A) (block (f l) (relabel f A)) (λ q. refl) (inner p) (inner-relabel p) in
-      under-else (relabel f) (under (λ B. block l B p) found) _ around after
+      let around = under-changed (λ B. block l B p) (λ B. block (f l) B (changed f g p)) (λ q. refl) found inside in
+      let after = under-changed (block l A) (block (f l) (changed f g A)) (λ q. refl) (inner p) (inner-changed p) in
+      under-else (changed f g) (under (λ B. block l B p) found) _ around after
 
-  pub next-relabel : (p : Plan L) → next (relabel f p) ≡ under (relabel f) (next p)
+  pub next-changed : (p : Plan L) → next (changed f g p) ≡ under (changed f g) (next p)
   unfolding next
-  next-relabel p = under-else (relabel f) (outer p) (inner p) (outer-relabel p) (inner-relabel p)
+  next-changed p = under-else (changed f g) (outer p) (inner p) (outer-changed p) (inner-changed p)
+
+  pub step-changed : {p q : Plan L} → p ⟶ q → changed f g p ⟶ changed f g q
+  unfolding changed
+  step-changed (rule-a {l} {B} {A} {p}) = rw (changed-then f g A (block l B p)) rule-a
+  step-changed rule-b = rule-b
+  step-changed rule-c = rule-c
+  step-changed rule-d = rule-d
+  step-changed (past-operator s) = past-operator (step-changed s)
+  step-changed (past-token s) = past-token (step-changed s)
+  step-changed (past-block s) = past-block (step-changed s)
+  step-changed (within s) = within (step-changed s)
+
+pub next-relabel : {L M : Type 0} (f : L → M) (p : Plan L) → next (relabel f p) ≡ under (relabel f) (next p)
+next-relabel f p =
+    ap next (relabel-changed f p) ∙ next-changed f (λ t. t) p ∙ under-same (changed f (λ t. t)) (relabel f) (λ q. sym (relabel-changed f q)) (next p)
+
+-- Every token is inert: whatever its text, the same operator is rewritten, and to the same but for the text.
+module _ {L : Type 0} (g : List ℕ → List ℕ) where
+  pub next-renamed : (p : Plan L) → next (renamed g p) ≡ under (renamed g) (next p)
+  next-renamed = next-changed (λ l. l) g
+
+  pub step-renamed : {p q : Plan L} → p ⟶ q → renamed g p ⟶ renamed g q
+  step-renamed = step-changed (λ l. l) g
 
 -- The order. A sequence's front part that has a ready operator decides which one is rewritten, whatever comes behind it:
 -- so it is the leftmost; and if none of the sequence itself is ready, a front part that has one inside a block decides.

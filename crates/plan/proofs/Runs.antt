@@ -1,22 +1,23 @@
--- Laws of a run: where it leads, why it ends, and what a larger quota, more cells or other labels change.
+-- Laws of a run: where it leads, why it ends, and what a larger quota, more cells, other labels or other token texts change.
 use Prim.Native.Nat.{ℕ, zero, suc, _+_, _≤_, _<_}
 use mathlib.Core.Path.{_≡_, refl, sym, _∙_, ap, subst}
 use mathlib.Core.Bool.{Bool, true, false, cond}
 use mathlib.Core.Logic.{_↔_}
 use mathlib.Core.Option.{Option, none, some}
+use mathlib.Core.List.{List}
 use native.Mathlib.Nat.{zero-add, suc-add}
 use native.Mathlib.Omega.{arith}
 use lib.Dec.{leb}
 use borrow.Author.Tests.{leb-true, leb-false, le-leb, lt-leb}
 use Rattle.plan.specs.declared.Ending.{Ending}
 use Rattle.plan.specs.declared.Ending.the-variants.{Done, Quota, Full}
-use Rattle.plan.specs.Plan.{Plan, cells, relabel, WithoutC}
+use Rattle.plan.specs.Plan.{Plan, cells, relabel, renamed, WithoutC}
 use Rattle.plan.specs.Token.{Allowed}
 use Rattle.plan.specs.Options.{under}
 use Rattle.plan.specs.Rewriting.{_⟶_, next}
 use Rattle.plan.specs.Running.{Turn, STOP, GO, ask, Ran, RAN, turn, one-more, run-plan, Leads}
-use Rattle.plan.proofs.Plans.{cells-relabel}
-use Rattle.plan.proofs.Rewrites.{next-step, next-relabel, step-allowed, step-without-c, step-smaller}
+use Rattle.plan.proofs.Plans.{cells-relabel, cells-changed}
+use Rattle.plan.proofs.Rewrites.{next-step, next-relabel, next-renamed, step-allowed, step-without-c, step-smaller}
 
 -- the ending of a run that makes no more steps, by what its last turn answered
 unfoldable pub ending : {L : Type 0} → Turn L → Ending
@@ -257,31 +258,46 @@ module _ {L : Type 0} where
       run-plan n (j + k) p ≡ RAN e′ (steps + steps′) q′
   run-add n j k p ran after = joins k (ran-run n j p ran) after
 
--- No turn looks at a label.
-module _ {L M : Type 0} (f : L → M) where
-  unfoldable pub retell : Turn L → Turn M
-  retell (STOP e) = STOP e
-  retell (GO q) = GO (relabel f q)
+-- A run goes the same way under a change of plans that keeps the cells and goes along with the next rewrite.
+unfoldable pub retell : {L M : Type 0} → (Plan L → Plan M) → Turn L → Turn M
+retell change (STOP e) = STOP e
+retell change (GO q) = GO (change q)
 
-  ask-under : (n : ℕ) (x : Option (Plan L)) → ask n (under (relabel f) x) ≡ retell (ask n x)
+module _ {L M : Type 0} (change : Plan L → Plan M) (as-large : (p : Plan L) → cells (change p) ≡ cells p)
+    (along : (p : Plan L) → next (change p) ≡ under change (next p)) where
+  ask-under : (n : ℕ) (x : Option (Plan L)) → ask n (under change x) ≡ retell change (ask n x)
   unfolding ask under retell
   ask-under n none = refl
-  ask-under n (some q) = rw (cells-relabel f q) (by-test (leb (cells q) n))
+  ask-under n (some q) = rw (as-large q) (by-test (leb (cells q) n))
     where
-      by-test : (b : Bool) → cond b (GO (relabel f q)) (STOP Full) ≡ retell (cond b (GO q) (STOP Full))
+      by-test : (b : Bool) → cond b (GO (change q)) (STOP Full) ≡ retell change (cond b (GO q) (STOP Full))
       by-test true = refl
       by-test false = refl
 
-  pub ask-relabel : (n : ℕ) (p : Plan L) {t : Turn L} → ask n (next p) ≡ t → ask n (next (relabel f p)) ≡ retell t
-  ask-relabel n p h = ap (ask n) (next-relabel f p) ∙ (ask-under n (next p) ∙ ap retell h)
+  ask-changed : (n : ℕ) (p : Plan L) {t : Turn L} → ask n (next p) ≡ t → ask n (next (change p)) ≡ retell change t
+  ask-changed n p h = ap (ask n) (along p) ∙ (ask-under n (next p) ∙ ap (retell change) h)
 
-  relabels : {n quota : ℕ} {p : Plan L} {e : Ending} {steps : ℕ} {q : Plan L} → Run n quota p e steps q →
-      Run n quota (relabel f p) e steps (relabel f q)
+  goes-along : {n quota : ℕ} {p : Plan L} {e : Ending} {steps : ℕ} {q : Plan L} → Run n quota p e steps q →
+      Run n quota (change p) e steps (change q)
   unfolding retell
-  relabels {n} (stop {p} h) = stop (ask-relabel n p h)
-  relabels {n} (spent {p} h) = spent (ask-relabel n p h)
-  relabels {n} (go {p} h ran) = go (ask-relabel n p h) (relabels ran)
+  goes-along {n} (stop {p} h) = stop (ask-changed n p h)
+  goes-along {n} (spent {p} h) = spent (ask-changed n p h)
+  goes-along {n} (go {p} h ran) = go (ask-changed n p h) (goes-along ran)
+
+  run-changed : (n quota : ℕ) (p : Plan L) {e : Ending} {steps : ℕ} {q : Plan L} →
+      run-plan n quota p ≡ RAN e steps q → run-plan n quota (change p) ≡ RAN e steps (change q)
+  run-changed n quota p ran = run-ran n (goes-along (ran-run n quota p ran))
+
+-- No turn looks at a label,
+module _ {L M : Type 0} (f : L → M) where
+  pub ask-relabel : (n : ℕ) (p : Plan L) {t : Turn L} → ask n (next p) ≡ t → ask n (next (relabel f p)) ≡ retell (relabel f) t
+  ask-relabel = ask-changed (relabel f) (cells-relabel f) (next-relabel f)
 
   pub run-relabel : (n quota : ℕ) (p : Plan L) {e : Ending} {steps : ℕ} {q : Plan L} →
       run-plan n quota p ≡ RAN e steps q → run-plan n quota (relabel f p) ≡ RAN e steps (relabel f q)
-  run-relabel n quota p ran = run-ran n (relabels (ran-run n quota p ran))
+  run-relabel = run-changed (relabel f) (cells-relabel f) (next-relabel f)
+
+-- and none at a token's text.
+pub run-renamed : {L : Type 0} (g : List ℕ → List ℕ) (n quota : ℕ) (p : Plan L) {e : Ending} {steps : ℕ} {q : Plan L} →
+    run-plan n quota p ≡ RAN e steps q → run-plan n quota (renamed g p) ≡ RAN e steps (renamed g q)
+run-renamed g = run-changed (renamed g) (cells-changed (λ l. l) g) (next-renamed g)

@@ -72,6 +72,16 @@ relabel f (block l b p) = block (f l) (relabel f b) (relabel f p)
 abbrev pub bare : {L : Type 0} → Plan L → Plan (Unit {0})
 bare p = relabel (λ l. tt) p
 
+-- the same plan with every label and every token's text replaced, at any depth, and with the tokens' texts alone
+unfoldable pub changed : {L M : Type 0} → (L → M) → (List ℕ → List ℕ) → Plan L → Plan M
+changed f g end = end
+changed f g (operator l o p) = operator (f l) o (changed f g p)
+changed f g (token l t p) = token (f l) (g t) (changed f g p)
+changed f g (block l b p) = block (f l) (changed f g b) (changed f g p)
+
+abbrev pub renamed : {L : Type 0} → (List ℕ → List ℕ) → Plan L → Plan L
+renamed g p = changed (λ l. l) g p
+
 -- a plan without operator c, at any depth
 abbrev pub WithoutC : {L : Type 0} → Plan L → Type 0
 WithoutC end = Unit {0}

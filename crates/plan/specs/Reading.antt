@@ -1,6 +1,8 @@
 -- Reading a text: the plan, each item labelled with the place of its first byte, or the refusal. Document 01, the table
 -- of bytes and refusals 13 to 17.
 use Prim.Native.Nat.{ℕ, zero, suc}
+use mathlib.Core.Path.{_≡_}
+use mathlib.Core.Logic.{_≢_, _⊎_}
 use mathlib.Core.Bool.{Bool, true, false, cond, not, _||_}
 use mathlib.Core.Option.{Option, none, some}
 use mathlib.Core.List.{List, [], _∷_}
@@ -12,6 +14,7 @@ use Rattle.plan.specs.declared.Refusal.the-variants.{Text, Overfull}
 use Rattle.plan.specs.declared.TextFault.{TextFault}
 use Rattle.plan.specs.declared.TextFault.the-variants.{BadByte, BadToken, Unmatched, Unclosed}
 use Rattle.plan.specs.Plan.{
+  Operator,
   op-a,
   op-b,
   op-c,
@@ -24,6 +27,7 @@ use Rattle.plan.specs.Plan.{
   _then_,
   cells,
   labels,
+  letter,
   open-bracket,
   close-bracket,
   open-brace,
@@ -55,6 +59,15 @@ class b =
     (cond (eqb b open-brace) BRACE
     (cond (eqb b 32) BLANK
     (cond (eqb b 10) BLANK BAD))))))))
+
+-- which bytes the table gives a class: for the refused one, those of no other row
+abbrev pub Byte : Class → ℕ → Type 0
+Byte (OPERATOR o) b = b ≡ letter o
+Byte OPEN b = b ≡ open-bracket
+Byte CLOSE b = b ≡ close-bracket
+Byte BRACE b = b ≡ open-brace
+Byte BLANK b = (b ≡ 32) ⊎ (b ≡ 10)
+Byte BAD b = ((o : Operator) → b ≢ letter o) × (b ≢ open-bracket) × (b ≢ close-bracket) × (b ≢ open-brace) × (b ≢ 32) × (b ≢ 10)
 
 -- The blocks that are open where the reader stands, the innermost first: each with its place and with what stands
 -- before it in its own sequence.
