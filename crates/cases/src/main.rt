@@ -24,6 +24,9 @@ const MEMORY: usize = Cell::NUMBERS * Cell::LIMIT;
 // More than any of these plans prints.
 const OUTPUT: usize = 1000;
 
+// The deepest plan: a `[` and a `]` for each cell.
+const DEEP: usize = 2 * Cell::LIMIT;
+
 fn bar() {
     write_all(STDOUT_FILENO, b" | ");
 }
@@ -178,6 +181,40 @@ fn tell_tokens(memory: &mut [u32; MEMORY], output: &mut [u8; OUTPUT]) {
     );
 }
 
+// As many blocks inside one another as there are cells.
+fn nest(text: &mut [u8; DEEP]) {
+    let mut at = 0;
+    while at < Cell::LIMIT {
+        text[at] = b'[';
+        text[Cell::LIMIT + at] = b']';
+        at += 1;
+    }
+}
+
+fn tell_bytes(count: usize) {
+    print_decimal(STDOUT_FILENO, count as u64);
+    write_all(STDOUT_FILENO, b" bytes | ");
+}
+
+// A plan nested to the limit: its text and what is printed are told by their lengths.
+fn run_deep(text: &[u8], memory: &mut [u32], output: &mut [u8]) {
+    let answer = run_filled(text, 100, memory, output);
+    let length = printed_length(answer);
+    tell_numbers(answer);
+    bar();
+    tell_bytes(length);
+    tell_rest(memory, output, length);
+}
+
+fn tell_deep(text: &mut [u8; DEEP], memory: &mut [u32; MEMORY], output: &mut [u8; DEEP]) {
+    nest(text);
+    write_all(STDOUT_FILENO, b"nested to the limit | ");
+    tell_bytes(DEEP);
+    print_decimal(STDOUT_FILENO, Cell::LIMIT as u64);
+    write_all(STDOUT_FILENO, b" | 100 | ");
+    run_deep(text, memory, output);
+}
+
 fn tell_heading() {
     write_all(
         STDOUT_FILENO,
@@ -199,4 +236,7 @@ fn main() {
     let mut output = [0u8; OUTPUT];
     let mut again = [0u8; OUTPUT];
     tell_all(&mut memory, &mut output, &mut again);
+    let mut nested = [0u8; DEEP];
+    let mut printed = [0u8; DEEP];
+    tell_deep(&mut nested, &mut memory, &mut printed);
 }

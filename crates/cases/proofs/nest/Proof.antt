@@ -2,8 +2,8 @@
 use Prim.Native.Nat.{_-_, _≤_}
 use borrow.Author.Needs.{needs}
 use Rattle.kinds.specs.Limits.{cellLimit}
-use Rattle.printback.proofs.nest.Statement.{statement}
-use Rattle.printback.proofs.nest.Tie as tie
+use Rattle.cases.proofs.nest.Statement.{statement}
+use Rattle.cases.proofs.nest.Tie as tie
 
 abbrev Inv-loop : tie.InvT-loop
 Inv-loop text₀ at₀ text at = (at ≤ cellLimit)
