@@ -3,6 +3,7 @@ pub mod Blanks
 pub mod Classes
 pub mod Faultless
 pub mod Frames
+pub mod Leftmost
 pub mod Numbered
 pub mod Options
 pub mod Pieces

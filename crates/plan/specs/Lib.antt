@@ -1,4 +1,5 @@
 pub mod Frames
+pub mod Leftmost
 pub mod Numbered
 pub mod Options
 pub mod Pieces
