@@ -24,7 +24,9 @@ same-length : tie.Need-same-length Inv-loop μ-loop
 same-length c = search needs
 
 returns : tie.Need-returns Inv-loop μ-loop
-returns c = (search going-stop, (search needs, search going-aside))
+returns c =
+    let t = c .before .before .before .before .before in
+    (going-stop (t .before .before .loop .inv) _ _ (t .step .ensures .0) (c .before .ending .given .1), (search needs, search going-aside))
 
 enum-known-held : tie.Need-enum-known-held Inv-loop μ-loop
 enum-known-held c = search needs

@@ -1,4 +1,5 @@
 -- `step`: hunt, count, ask, rewrite.
+use mathlib.Core.Bool.{true}
 use borrow.Author.Needs.{needs}
 use Rattle.memory.proofs.Whole.{aside-same}
 use Rattle.engine.proofs.Turning.{huntable, turn-countable, turn-done, turn-full, turn-quota, turn-rewritable, turn-went}
@@ -21,28 +22,44 @@ same-length : tie.Need-same-length
 same-length c = search needs
 
 returns : tie.Need-returns
-returns c = (search (needs, turn-full), (tt, search aside-same))
+returns c =
+    let a = c .before .before in
+    let s = a .before .before .before in
+    (turn-full (s .before .before .hunt .ensures) (s .spot .given .1) _ (a .size-after .ensures) (c .if1 .taken) true, (tt, search aside-same))
 
 same-length-2 : tie.Need-same-length-2
 same-length-2 c = search needs
 
 returns-2 : tie.Need-returns-2
-returns-2 c = (search (needs, turn-quota), (tt, search aside-same))
+returns-2 c =
+    let a = c .before .before .before in
+    let s = a .before .before .before in
+    (turn-quota (s .before .before .hunt .ensures) (s .spot .given .1) _ (a .size-after .ensures) (c .before .if1 .left) _ (c .if2 .taken), (tt, search aside-same))
 
 rewrite-requires : tie.Need-rewrite-requires
-rewrite-requires c κs = search (needs, turn-rewritable)
+rewrite-requires c κs =
+    let a = c .before .before .before .before in
+    let s = a .before .before .before in
+    turn-rewritable (s .before .before .hunt .ensures) (s .spot .given .1) _ (a .size-after .ensures) (c .before .before .if1 .left) (s .before .before .before .before .before .before .before .pre)
 
 same-length-3 : tie.Need-same-length-3
 same-length-3 c = search needs
 
 returns-3 : tie.Need-returns-3
-returns-3 c = (search (needs, turn-done), (tt, search aside-same))
+returns-3 c = (turn-done (c .before .before .hunt .ensures) (c .enum-told .given .1) true, (tt, search aside-same))
 
 same-length-4 : tie.Need-same-length-4
 same-length-4 c = search needs
 
 returns-4 : tie.Need-returns-4
-returns-4 c = (search (needs, turn-went), (search needs, search needs))
+returns-4 c =
+    let w = c .before .before in
+    let e = w .before .before in
+    let a = e .before .before .before in
+    let s = a .before .before .before in (
+      turn-went (s .before .before .hunt .ensures) (s .spot .given .1) _ (a .size-after .ensures) (e .before .if1 .left) _ (e .if2 .left) (w .rewrite .ensures .0),
+      (search needs, search needs),
+    )
 
 pub step-spec : {M : Type 1} → statement M
 step-spec =

@@ -14,7 +14,7 @@ enum-known-kind : tie.Need-enum-known-kind
 enum-known-kind c = search needs
 
 returns : tie.Need-returns
-returns c = search (needs, none-there)
+returns c = none-there _ (c .before .before .before .kind .given .1) _ _ _ _ (c .if1 .taken)
 
 takes-two-requires : tie.Need-takes-two-requires
 takes-two-requires c κs = search needs

@@ -26,7 +26,9 @@ link-of-requires : tie.Need-link-of-requires Inv-loop μ-loop
 link-of-requires c κs = (search needs, search scan-start)
 
 loop-holds : tie.Need-loop-holds Inv-loop μ-loop
-loop-holds c = search (needs, scan-first)
+loop-holds c =
+    let e = c .before .before in
+    scan-first (e .before .before .before .before .before .pre) _ _ _ (e .close .ensures) (c .before .start .ensures) (c .link-of .ensures)
 
 kind-at-requires : tie.Need-kind-at-requires Inv-loop μ-loop
 kind-at-requires c κs = scan-here (c .before .before .before .loop .inv) (c .if1 .taken)
@@ -41,7 +43,7 @@ returns : tie.Need-returns Inv-loop μ-loop
 returns c =
     let r = c .before .before .before in
     let t = r .before .before in
-    scan-found (t .before .before .before .loop .inv) (t .if1 .taken) _ (r .before .kind-at .ensures) _ (r .ready-at .ensures) _ (c .before .spot .given .1) _ (search needs)
+    scan-found (t .before .before .before .loop .inv) (t .if1 .taken) _ (r .before .kind-at .ensures) _ (r .ready-at .ensures) _ (c .before .spot .given .1) _ (t .before .before .before .before .before .before .close .ensures)
 
 enum-told : tie.Need-enum-told Inv-loop μ-loop
 enum-told c = search needs
@@ -78,7 +80,9 @@ loop-again c =
     _ _ (c .before .before .closes .ensures) (c .link-of2 .ensures) .0
 
 returns-2 : tie.Need-returns-2 Inv-loop μ-loop
-returns-2 c = search (needs, scan-none)
+returns-2 c =
+    let l = c .before .before .before in
+    scan-none (l .loop .inv) (c .if1 .left) _ (l .before .before .before .close .ensures)
 
 pub scan-spec : {M : Type 1} → statement M
 scan-spec =

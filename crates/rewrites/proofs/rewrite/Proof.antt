@@ -24,13 +24,19 @@ enum-told-3 : tie.Need-enum-told-3
 enum-told-3 c = search needs
 
 rule-c-requires : tie.Need-rule-c-requires
-rule-c-requires c κs = search (needs, finds-c)
+rule-c-requires c κs =
+    let o = c .before .before .before .before .before in
+    let k = o .before .before .before .before .before .before .before .pre in
+    finds-c (k .rewrites) (o .remove-operator .ensures) (k .lent) (c .before .enum-told3 .given .1)
 
 enum-told-4 : tie.Need-enum-told-4
 enum-told-4 c = search needs
 
 rule-d-requires : tie.Need-rule-d-requires
-rule-d-requires c κs = search (needs, finds-d)
+rule-d-requires c κs =
+    let o = c .before .before .before .before .before in
+    let k = o .before .before .before .before .before .before .before .pre in
+    finds-d (k .rewrites) (o .remove-operator .ensures) (k .lent) (c .before .enum-told4 .given .1)
 
 same-length : tie.Need-same-length
 same-length c = search needs
@@ -48,13 +54,17 @@ same-length-3 : tie.Need-same-length-3
 same-length-3 c = search needs
 
 returns-3 : tie.Need-returns-3
-returns-3 c = (λ f q q′ r. search makes-c, (cc, search aside-two))
+returns-3 c =
+    let e = c .before .before .before .before in
+    (λ f q q′ r. makes-c r (e .before .before .before .before .remove-operator .ensures) (e .enum-told3 .given .1) (c .before .before .rule-c .ensures .0), (cc, search aside-two))
 
 same-length-4 : tie.Need-same-length-4
 same-length-4 c = search needs
 
 returns-4 : tie.Need-returns-4
-returns-4 c = (λ f q q′ r. search makes-d, (cc, search aside-two))
+returns-4 c =
+    let e = c .before .before .before .before in
+    (λ f q q′ r. makes-d r (e .before .before .before .before .remove-operator .ensures) (e .enum-told4 .given .1) (c .before .before .rule-d .ensures .0), (cc, search aside-two))
 
 pub rewrite-spec : {M : Type 1} → statement M
 rewrite-spec =

@@ -21,7 +21,10 @@ same-length : tie.Need-same-length
 same-length c = search needs
 
 returns : tie.Need-returns
-returns c = (search rule-a-holds, (cc, search aside-two))
+returns c =
+    let u = c .before .before in
+    let m = u .before .before .before .before .before in
+    (rule-a-holds _ _ _ _ _ (m .before .before .last-port .ensures) (u .before .close .ensures) (m .move-block .ensures) (u .unwrap .ensures), (cc, search aside-two))
 
 pub rule-a-spec : {M : Type 1} → statement M
 rule-a-spec = tie.close (tie.spec last-port-requires move-block-requires close-requires unwrap-requires same-length returns)

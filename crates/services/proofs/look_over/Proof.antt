@@ -5,7 +5,7 @@ use Rattle.services.proofs.look_over.Statement.{statement}
 use Rattle.services.proofs.look_over.Tie as tie
 
 returns : tie.Need-returns
-returns c = search (needs, too-long)
+returns c = too-long _ _ (c .if1 .taken)
 
 returns-2 : tie.Need-returns-2
 returns-2 c = search (needs, bad-arena)

@@ -5,7 +5,7 @@ use Rattle.services.proofs.running.print_plan.Statement.{statement}
 use Rattle.services.proofs.running.print_plan.Tie as tie
 
 printed-length-requires : tie.Need-printed-length-requires
-printed-length-requires c κs = search prints-at-most
+printed-length-requires c κs = prints-at-most (c .before .before .before .before .pre)
 
 cast-if1 : tie.Need-cast-if1
 cast-if1 c = search needs
@@ -20,7 +20,10 @@ same-length : tie.Need-same-length
 same-length c = search needs
 
 returns-2 : tie.Need-returns-2
-returns-2 c = search (needs, writes-all)
+returns-2 c =
+    let l = c .before .before .before .before .before in
+    let s = l .before .before .before .before .before in
+    writes-all (s .args .ended) (l .printed-length .ensures) _ (c .before .before .before .before .if1 .left) (c .before .before .print-into .ensures)
 
 pub print-plan-spec : {M : Type 1} → statement M
 print-plan-spec =

@@ -31,7 +31,7 @@ returns c =
     let b = r .before .before .before .before in
     let built = b .build-plan .ensures in
     let ran = r .run .ensures in
-    (search end-written, ran .1 .1 .as-long ∙ built .1 .1 .as-long)
+    (end-written _ (b .before .before .before .before .before .pre) _ _ (built .0) (built .1 .0) (built .1 .1) _ _ _ (ran .0) (ran .1 .0) (ran .1 .1) (c .before .before .print-plan .ensures), ran .1 .1 .as-long ∙ built .1 .1 .as-long)
 
 pub run-accepted-spec : {M : Type 1} → statement M
 run-accepted-spec =
