@@ -13,9 +13,9 @@ use Rattle.memory.specs.Memory.{start, close, link, ports, whole}
 use Rattle.memory.specs.Model.{Lent}
 use Rattle.memory.specs.declared.Held.{Held}
 use Rattle.blocks.specs.Blocks.{HasBlock, Alone}
-use Rattle.blocks.proofs.Inside.{block-alone}
+use Rattle.blocks.proofs.LinkedBlock.{block-alone}
 use Rattle.blocks.proofs.Starts.{starts, starts-even, starts-odd, length-starts, starts-ports, way-inside}
-use Rattle.blocks.proofs.Ways.{ahead, at-most, ahead-end, way-ahead, way-from, Way, Turn, turn}
+use Rattle.blocks.proofs.Ways.{ahead, at-most, ahead-end, way-ahead, way-from, Way, WayAhead, turn}
 
 -- how many cells begin from a port on
 abbrev pub to-count : (m : List ℕ) → (n first stop port : ℕ) → ℕ
@@ -59,7 +59,7 @@ module _ {m : List ℕ} {n first stop from port count : ℕ} (h : Counting m n f
   abbrev v : List ℕ
   v = whole n m first
 
-  here : Turn v n stop port
+  here : WayAhead v n stop port
   here = turn (h .way) more
 
   pub count-low : port ≤ start n

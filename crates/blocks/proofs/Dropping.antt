@@ -13,7 +13,7 @@ use Rattle.memory.specs.Model.{Lent, Aside}
 use Rattle.memory.proofs.Whole.{aside-on, aside-same, lent-kept}
 use Rattle.blocks.specs.Blocks.{Alone, Leaves, freed, first-free}
 use Rattle.blocks.proofs.Starts.{starts, starts-even, starts-odd, starts-block, way-through}
-use Rattle.blocks.proofs.Ways.{ahead, leads-beside, ahead-end, way-ahead, way-from, Way, Turn, turn}
+use Rattle.blocks.proofs.Ways.{ahead, leads-beside, ahead-end, way-ahead, way-from, Way, WayAhead, turn}
 
 -- the cells that begin from a port on
 abbrev pub to-free : (w : List ℕ) → (n stop port : ℕ) → List ℕ
@@ -40,7 +40,7 @@ module _ {m₀ : List ℕ} {n first stop from free₀ : ℕ} {m : List ℕ} {por
   abbrev w : List ℕ
   w = whole n m first
 
-  here : Turn w n stop port
+  here : WayAhead w n stop port
   here = turn (h .way) more
 
   pub drop-low : port < start n

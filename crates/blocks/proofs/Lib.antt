@@ -1,7 +1,7 @@
 pub mod Counting
 pub mod Dropping
 pub mod Freed
-pub mod Inside
-pub mod Last
+pub mod LastPort
+pub mod LinkedBlock
 pub mod Starts
 pub mod Ways

@@ -13,7 +13,8 @@ use Rattle.plan.specs.Plan.{Plan, end, operator, token, block, labels}
 use Rattle.memory.specs.Memory.{start, close, link, ports}
 use Rattle.memory.proofs.Ports.{below-ports, start-absent, close-absent, ports-distinct}
 use Rattle.blocks.specs.Blocks.{Alone}
-use Rattle.blocks.proofs.Ways.{Way, leads-linked}
+use Rattle.memory.proofs.Along.{leads-linked}
+use Rattle.blocks.proofs.Ways.{Way}
 
 -- an even port is a start: as the code's test says
 module _ (p : ℕ) {closes : Bool} (e : closes ≡ eqb (p % 2) 1) where
@@ -83,7 +84,7 @@ module _ {n : ℕ} {w : List ℕ} {c : ℕ} {b : Plan ℕ} (h : Alone n w c b) w
   pub way-inside : Way w n (close c) (link w (start c)) (ports b)
   way-inside =
       record {
-        leads = leads-linked w (close c) (start c) (ports b) (h .chain);
+        leads = leads-linked w (close c) (start c) (ports b) [] (h .chain);
         once = (close-absent c b (h .distinct .0), ports-distinct b (h .distinct .1));
         below = below-ports n b (h .below .1);
       }

@@ -1,19 +1,18 @@
--- The way along a chain of ports from one port up to a stop, on plain values. The ports ahead are a function of the port where
--- a walk stands, with as many steps as all cells have ports: no port comes twice, so these are enough, and a walk that needs
--- no plan to tell where it is still ends.
+-- The way along a chain of ports from one port up to a stop, on plain values. No port comes twice, so as many steps as all cells have
+-- ports are enough for it.
 use Prim.Native.Nat.{ℕ, zero, suc, _+_, _*_, _≤_, _<_}
 use mathlib.Core.Path.{_≡_, refl, ap, sym, _∙_, subst}
 use mathlib.Core.Bool.{Bool, true, false}
 use mathlib.Core.Logic.{_≢_, _⊎_, inl, inr}
 use mathlib.Core.List.{List, [], _∷_, _++_}
 use native.Mathlib.Omega.{arith}
-use borrow.Author.Tests.{eqb-true, eqb-false, eq-eqb, ne-eqb}
+use borrow.Author.Tests.{eqb-true, eqb-false}
 use lib.Dec.{eqb}
 use lib.ListN.{length, set, length-append}
 use lib.Seq.{getD-set-other}
-use Rattle.memory.specs.Memory.{start, link, Linked, Below, Absent, Distinct}
+use Rattle.memory.specs.Memory.{start, link, Below, Absent, Distinct}
 use Rattle.memory.proofs.Freeing.{below-swap, distinct-swap}
-use Rattle.memory.proofs.Walking.{along}
+use Rattle.memory.proofs.Along.{along, along-leads, LeadsAlong}
 
 -- numbers below n, none of them twice, are at most n
 
@@ -54,30 +53,14 @@ at-most (suc n) xs b d = at-most-split n xs (at-most n) b d (split n xs)
 abbrev pub ahead : (w : List ℕ) → (n stop port : ℕ) → List ℕ
 ahead w n stop port = along w stop (2 * n) port
 
-abbrev pub Leads : (w : List ℕ) → (stop port : ℕ) → List ℕ → Type 0
-Leads w stop port [] = port ≡ stop
-Leads w stop port (x ∷ ps) = (port ≡ x) × Leads w stop (link w x) ps
-
 -- these are the ports from one on up to the stop: ports of lent cells, each once, and none of them the stop
 pub record Way (w : List ℕ) (n stop port : ℕ) (ps : List ℕ) : Type 0 where
-  pub leads : Leads w stop port ps
+  pub leads : LeadsAlong w stop port ps
   pub once : Distinct (stop ∷ ps)
   pub below : Below (start n) ps
 
-along-leads : (w : List ℕ) (stop steps port : ℕ) (ps : List ℕ) → Leads w stop port ps → Absent stop ps → length ps ≤ steps → along w stop steps port ≡ ps
-unfolding along
-along-leads w stop zero port [] h a l = refl
-along-leads w stop zero port (x ∷ ps) h a l = absurd (omega arith)
-along-leads w stop (suc k) port [] h a l = rw (eq-eqb port stop h)
-along-leads w stop (suc k) port (x ∷ ps) h a l =
-    rw (h .0, ne-eqb x stop (λ e. a .0 (sym e)), along-leads w stop k (link w x) ps (h .1) (a .1) (omega arith))
-
-pub leads-linked : (w : List ℕ) (stop x : ℕ) (ps : List ℕ) → Linked w (x ∷ (ps ++ stop ∷ [])) → Leads w stop (link w x) ps
-leads-linked w stop x [] h = h .0
-leads-linked w stop x (y ∷ ps) h = (h .0, leads-linked w stop y ps (h .1))
-
 -- a store at the link of a port that is not ahead
-pub leads-beside : (w : List ℕ) (stop port : ℕ) (ps : List ℕ) (p a : ℕ) → Absent p ps → Leads w stop port ps → Leads (set w (2 * p + 1) a) stop port ps
+pub leads-beside : (w : List ℕ) (stop port : ℕ) (ps : List ℕ) (p a : ℕ) → Absent p ps → LeadsAlong w stop port ps → LeadsAlong (set w (2 * p + 1) a) stop port ps
 leads-beside w stop port [] p a h k = k
 leads-beside w stop port (x ∷ ps) p a h k =
     (k .0, rw (getD-set-other w (2 * p + 1) (2 * x + 1) a 0 (omega arith)) (leads-beside w stop (link w x) ps p a (h .1) (k .1)))
@@ -94,23 +77,23 @@ pub way-from : {w : List ℕ} {n stop port : ℕ} {ps : List ℕ} → Way w n st
 way-from h = rw (way-ahead h) h
 
 -- the first port ahead, and the ports behind it
-pub record Turn (w : List ℕ) (n stop port : ℕ) : Type 0 where
+pub record WayAhead (w : List ℕ) (n stop port : ℕ) : Type 0 where
   pub low : port < start n
   pub on : ahead w n stop port ≡ port ∷ ahead w n stop (link w port)
   pub past : Absent port (ahead w n stop (link w port))
   pub way : Way w n stop (link w port) (ahead w n stop (link w port))
 
-turn-first : (w : List ℕ) (n stop port : ℕ) (ps : List ℕ) → Way w n stop port ps → port ≢ stop → Turn w n stop port
+turn-first : (w : List ℕ) (n stop port : ℕ) (ps : List ℕ) → Way w n stop port ps → port ≢ stop → WayAhead w n stop port
 turn-first w n stop port [] h more = absurd (more (h .leads))
 turn-first w n stop port (x ∷ ps) h more =
     let next : Way w n stop (link w x) ps =
     record { leads = h .leads .1; once = (h .once .0 .1, h .once .1 .1); below = h .below .1 } in
-    subst (Turn w n stop) (sym (h .leads .0)) record {
+    subst (WayAhead w n stop) (sym (h .leads .0)) record {
       low = h .below .0;
       on = ap (ahead w n stop) (sym (h .leads .0)) ∙ way-ahead h ∙ ap (x ∷_) (sym (way-ahead next));
       past = rw (way-ahead next) (h .once .1 .0);
       way = way-from next;
     }
 
-pub turn : {w : List ℕ} {n stop port : ℕ} → Way w n stop port (ahead w n stop port) → port ≢ stop → Turn w n stop port
+pub turn : {w : List ℕ} {n stop port : ℕ} → Way w n stop port (ahead w n stop port) → port ≢ stop → WayAhead w n stop port
 turn h more = turn-first _ _ _ _ _ h more

@@ -10,7 +10,7 @@ ghost use Rattle.memory.specs.Numbered.{kind-number};
 ghost use Rattle.memory.specs.Model.{
   Lent,
   Aside,
-  Ready,
+  Buildable,
   Stepped,
   Fresh,
   Begun,
@@ -74,7 +74,7 @@ fn set_place(memory: &mut [u32], b: Build, token: Token)
 
 // Links the tail on to the first free cell, which comes into use.
 fn append(memory: &mut [u32], b: Build, opened: Cell, next: Cell) -> Build
-    requires { ⌜ Ready (now memory) b × (b .free .0 < b .outer .0) ⌝ }
+    requires { ⌜ Buildable (now memory) b × (b .free .0 < b .outer .0) ⌝ }
     ensures { λ r. ⌜ Stepped (now (memory .entry)) b (now (memory .exit)) r (with-cell (model (now (memory .entry)) b) (model (now (memory .entry)) b .numbers) (opened .0) (next .0)) ⌝ }
 {
     let outer = b.outer;
@@ -116,7 +116,7 @@ pub fn fresh(memory: &mut [u32], outer: Cell) -> Build
 
 // Puts an operator behind the last item.
 fn put_operator(memory: &mut [u32], b: Build, operator: Operator) -> Build
-    requires { ⌜ Ready (now memory) b × (b .free .0 < b .outer .0) ⌝ }
+    requires { ⌜ Buildable (now memory) b × (b .free .0 < b .outer .0) ⌝ }
     ensures { λ r. ⌜ Stepped (now (memory .entry)) b (now (memory .exit)) r (with-item (model (now (memory .entry)) b) (operator-number operator)) ⌝ }
 {
     let opened = b.opened;
@@ -126,7 +126,7 @@ fn put_operator(memory: &mut [u32], b: Build, operator: Operator) -> Build
 
 // Puts a token, by its place in the text, behind the last item.
 fn put_token(memory: &mut [u32], b: Build, token: Token) -> Build
-    requires { ⌜ Ready (now memory) b × (b .free .0 < b .outer .0) ⌝ }
+    requires { ⌜ Buildable (now memory) b × (b .free .0 < b .outer .0) ⌝ }
     ensures { λ r. ⌜ Stepped (now (memory .entry)) b (now (memory .exit)) r (with-token (model (now (memory .entry)) b) (token .at .0) (token .len)) ⌝ }
 {
     let opened = b.opened;
@@ -137,7 +137,7 @@ fn put_token(memory: &mut [u32], b: Build, token: Token) -> Build
 
 // Opens a block behind the last item: its close keeps the block that was open so far.
 fn open_block(memory: &mut [u32], b: Build) -> Build
-    requires { ⌜ Ready (now memory) b × (b .free .0 < b .outer .0) ⌝ }
+    requires { ⌜ Buildable (now memory) b × (b .free .0 < b .outer .0) ⌝ }
     ensures { λ r. ⌜ Stepped (now (memory .entry)) b (now (memory .exit)) r (with-block (model (now (memory .entry)) b)) ⌝ }
 {
     let outer = b.outer;
@@ -151,7 +151,7 @@ fn open_block(memory: &mut [u32], b: Build) -> Build
 
 // Closes the innermost open block: the one that its close kept is open again.
 fn close_block(memory: &mut [u32], b: Build) -> Build
-    requires { ⌜ Ready (now memory) b × (b .opened .0 < b .outer .0) ⌝ }
+    requires { ⌜ Buildable (now memory) b × (b .opened .0 < b .outer .0) ⌝ }
     ensures { λ r. ⌜ Stepped (now (memory .entry)) b (now (memory .exit)) r (with-close (model (now (memory .entry)) b)) ⌝ }
 {
     let outer = b.outer;
@@ -212,7 +212,7 @@ pub fn put_piece(memory: &mut [u32], b: Build, piece: Piece) -> Build
 
 // Ends the plan: the last port links to the end mark.
 pub fn finish(memory: &mut [u32], b: Build) -> Held
-    requires { ⌜ Ready (now memory) b ⌝ }
+    requires { ⌜ Buildable (now memory) b ⌝ }
     ensures { λ r. ⌜ Finished (now (memory .entry)) b (now (memory .exit)) r ⌝ }
 {
     let outer = b.outer;

@@ -1,5 +1,5 @@
-pub mod Ahead
-pub mod Going
+pub mod CopyLoop
+pub mod CopySoFar
 pub mod Likes
+pub mod Road
 pub mod Starting
-pub mod Walk

@@ -23,21 +23,18 @@ use Rattle.memory.specs.Memory.{
   Shared,
 }
 use Rattle.memory.specs.Model.{Model}
+use Rattle.memory.proofs.Along.{leads-linked}
 use Rattle.memory.proofs.Building.{begin-in}
 use Rattle.memory.proofs.Lists.{absent-split, distinct-split, linked-beside, linked-split, not-before}
 use Rattle.memory.proofs.Ports.{ports-absent, ports-distinct, says-beside}
 use Rattle.memory.proofs.Placing.{place-first}
 use Rattle.memory.proofs.Printing.{chain-shows, length-ports}
 use Rattle.memory.proofs.Sharing.{free-absent, room-free, shared-beside, shared-take}
-use Rattle.memory.proofs.Within.{block-ports, block-said}
-use Rattle.copier.proofs.Ahead.{Reaches, Road}
-use Rattle.copier.proofs.Going.{Going, Started, beside}
+use Rattle.memory.proofs.BlockInPlan.{block-ports, block-said}
+use Rattle.copier.proofs.Road.{Road}
+use Rattle.copier.proofs.CopySoFar.{CopySoFar, Started, beside}
 
 -- the road through the contents
-
-linked-reaches : (w : List ℕ) (x : ℕ) (ps : List ℕ) (y : ℕ) (zs : List ℕ) → Linked w (x ∷ (ps ++ y ∷ zs)) → Reaches w (link w x) ps y
-linked-reaches w x [] y zs h = h .0
-linked-reaches w x (p ∷ ps) y zs h = (h .0, linked-reaches w p ps y zs (h .1))
 
 first-road : (w : List ℕ) (n c : ℕ) (t b : Plan ℕ) → BlockIn c b t → Linked w (start n ∷ (ports t ++ close n ∷ [])) → Distinct (labels t)
     → cells b ≤ n → Road w n (close c) t (link w (start c)) (ports b)
@@ -48,7 +45,7 @@ first-road w n c t b found linked distinct low =
     let chain = linked-split w (start n ∷ xs) (start c) (ports b ++ close c ∷ (ys ++ close n ∷ [])) (subst (Linked w) regrouped linked) .1 in
     let apart = distinct-split xs (start c ∷ (ports b ++ close c ∷ ys)) (subst Distinct splits (ports-distinct t distinct)) .1 .1 in
     record {
-      reaches = linked-reaches w (start c) (ports b) (close c) (ys ++ close n ∷ []) chain;
+      leads = leads-linked w (close c) (start c) (ports b) (ys ++ close n ∷ []) chain;
       ours = λ x m h.
           m (absent-split x (ports b) (close c ∷ ys)
           (absent-split x xs (start c ∷ (ports b ++ close c ∷ ys)) (subst (Absent x) splits (ports-absent x t h)) .1 .1) .0);
@@ -56,11 +53,11 @@ first-road w n c t b found linked distinct low =
       few = omega (arith, length-ports b);
     }
 
-pub first-going : (text : List ℕ) (n c root : ℕ) (t b : Plan ℕ) (s : Model) → Started text n (s .numbers) root t → BlockIn c b t
+pub copy-first : (text : List ℕ) (n c root : ℕ) (t b : Plan ℕ) (s : Model) → Started text n (s .numbers) root t → BlockIn c b t
     → Shared n (s .numbers) (s .free) (beside t root) → s .tail ≡ start root → s .opened ≡ root → length (beside t root) + cells b ≤ n
-    → Going text n (s .numbers) root (close c) t b s (link (s .numbers) (start c))
+    → CopySoFar text n (s .numbers) root (close c) t b s (link (s .numbers) (start c))
 unfolding seen labels
-first-going text n c root t b s started found shared tail opened room =
+copy-first text n c root t b s started found shared tail opened room =
     let distinct = distinct-split (labels t) (root ∷ []) (distinct-split (beside t root) (shared .spare) (shared .distinct) .0) .0 in
     record {
       ahead = ports b;

@@ -6,7 +6,7 @@ use mathlib.Core.List.{List, [], _∷_, _++_}
 use Rattle.plan.specs.Plan.{Plan, bare, cells, labels}
 use Rattle.memory.specs.Held.{BlockIn, HeldIn}
 use Rattle.memory.specs.Memory.{start, close, datum, whole, block-kind, ports, Linked, Says, Shared}
-use Rattle.memory.specs.Model.{FindsCell, Lent, Model, Ready, model, with-piece}
+use Rattle.memory.specs.Model.{FindsCell, Lent, Model, Buildable, model, with-piece}
 use Rattle.memory.specs.Pieces.{piece-at}
 use Rattle.memory.specs.declared.Build.{Build}
 use Rattle.memory.specs.declared.Held.{Held}
@@ -45,6 +45,6 @@ like s port = with-piece s (piece-at (s .numbers) port)
 
 -- a port of a lent cell, whose like can be put
 pub record LikeReady (m : List ℕ) (b : Build) (port : ℕ) : Type 0 where
-  pub ready : Ready m b
+  pub ready : Buildable m b
   pub below : port < start (b .outer .0)
   pub finds : FindsCell (b .free .0) (b .opened .0) (b .outer .0) (piece-at (model m b .numbers) port)

@@ -144,7 +144,7 @@ ends-gives {n} {quota} {text} {e} {steps} {q} ends =
         as-run-bare e′ steps′ q′ ∙ ap as-run (ends-one (ends-bare n text (ends .reads .accepted) quota h) ends)
 
 -- an unrefused run, by the definition: how it ended, what it told and what it left
-pub record Ended (n quota : ℕ) (text out : List ℕ) (r : Answer) (out′ : List ℕ) : Type 0 where
+pub record EndedRun (n quota : ℕ) (text out : List ℕ) (r : Answer) (out′ : List ℕ) : Type 0 where
   pub ending : Ending
   pub steps : ℕ
   pub result : Bare
@@ -155,10 +155,10 @@ pub record Ended (n quota : ℕ) (text out : List ℕ) (r : Answer) (out′ : Li
 
 module _ {text : List ℕ} {quota : ℕ} {memory out : List ℕ} {r : Answer} {memory′ out′ : List ℕ}
     (call : Runs text quota memory out r memory′ out′) where
-  pub run-ended : Unrefused r → Ended (lent memory) quota text out r out′
+  pub run-ended : Unrefused r → EndedRun (lent memory) quota text out r out′
   run-ended h = go (run-case call) h
     where
-      go : {r : Answer} {out′ : List ℕ} → RunCase (lent memory) quota text out r out′ → Unrefused r → Ended (lent memory) quota text out r out′
+      go : {r : Answer} {out′ : List ℕ} → RunCase (lent memory) quota text out r out′ → Unrefused r → EndedRun (lent memory) quota text out r out′
       go (bad-text {x} g) h = absurd (omega (arith, refusal-over x))
       go (out-short {q = q} g short) h = absurd (omega (arith, refusal-over (OutShort (length (print q)))))
       go (ended {e} {steps} {q} g fits) h =
@@ -182,7 +182,7 @@ module _ {text : List ℕ} {quota : ℕ} {memory out : List ℕ} {r : Answer} {m
       go (out-short g short) = absurd (omega (arith, ap (λ (p : Bare). length (print p)) (ends-same g ends)))
       go (ended {e} g fits) = omega (arith, ending-at-most e)
 
-module _ {n quota : ℕ} {text out : List ℕ} {r : Answer} {out′ : List ℕ} (x : Ended n quota text out r out′) where
+module _ {n quota : ℕ} {text out : List ℕ} {r : Answer} {out′ : List ℕ} (x : EndedRun n quota text out r out′) where
   pub ended-saved : saved r out′ ≡ print (x .result)
   ended-saved = rw (x .told, x .left) (take-append-seam (print (x .result)) (drop (length (print (x .result))) out))
 

@@ -1,6 +1,6 @@
 pub mod Answered
 pub mod Cases
-pub mod Ended
+pub mod Endings
 pub mod Meanings
 pub mod MoreNeverChanges
 pub mod Numbers

@@ -19,14 +19,14 @@ use Rattle.services.specs.Calls.{Runs}
 use Rattle.demands.specs.Slots.{Slot, Slots, first, only}
 use Rattle.demands.specs.Words.{Bare, DONE, Ends, Reads, Unrefused, lent, saved}
 use Rattle.demands.proofs.Answered.{every-run-answered}
-use Rattle.demands.proofs.Cases.{Ended, ended-gives, ended-saved, ends-unrefused, read-unrefused, run-ended}
+use Rattle.demands.proofs.Cases.{EndedRun, ended-gives, ended-saved, ends-unrefused, read-unrefused, run-ended}
 use Rattle.demands.proofs.Meanings.{ends-one, ends-sound, reads-one, reads-with-more, sound-back}
 use Rattle.demands.proofs.Numbers.{same-ending}
 use Rattle.demands.proofs.SavedTexts.{output-long-enough}
 
 module _ {text : List ℕ} {quota : ℕ} {memory out : List ℕ} {r : Answer} {memory′ out′ : List ℕ}
     (call : Runs text quota memory out r memory′ out′) (done : numbers r .number ≡ DONE) where
-  run : Ended (lent memory) quota text out r out′
+  run : EndedRun (lent memory) quota text out r out′
   run = run-ended call (omega (arith, done))
 
   ends-done : Ends (lent memory) quota text Done (numbers r .steps) (run .result)
@@ -56,7 +56,7 @@ module _ {text : List ℕ} {quota : ℕ} {memory out : List ℕ} {r : Answer} {m
       let run₂ = run-ended call₂ (ends-unrefused call₂ ends₂ (omega (arith, run .fits))) in
       told run₂ (ends-one (run₂ .ends) ends₂)
     where
-      told : (x : Ended (lent memory₂) quota₂ text₂ out₂ r₂ out₂′)
+      told : (x : EndedRun (lent memory₂) quota₂ text₂ out₂ r₂ out₂′)
           → RAN (x .ending) (x .steps) (x .result) ≡ RAN Done (numbers r .steps) (run .result)
           → (numbers r₂ .number ≡ DONE) × (saved r₂ out₂′ ≡ saved r out′) × (numbers r₂ .steps ≡ numbers r .steps)
       told x same =

@@ -20,7 +20,7 @@ use Rattle.plan.proofs.Rewrites.{finished-iff}
 use Rattle.services.specs.Calls.{Checks, Runs, Tidies}
 use Rattle.demands.specs.Demanded.{AsDemanded}
 use Rattle.demands.specs.Words.{Bare, NextFits, NextHasMoreThan, NoRuleApplies, Rewritten, Unrefused, lent, saved}
-use Rattle.demands.proofs.Ended.{
+use Rattle.demands.proofs.Endings.{
   done-exactly-when,
   every-plan-had-room,
   full-exactly-when,

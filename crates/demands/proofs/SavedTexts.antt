@@ -17,7 +17,7 @@ use Rattle.services.specs.Calls.{Checks, Runs, Tidies}
 use Rattle.demands.specs.Words.{OUTSHORT, OVERFULL, Reads, TOOLONG, Unrefused, lent, saved}
 use Rattle.demands.proofs.Cases.{
   CheckCase,
-  Ended,
+  EndedRun,
   RunCase,
   TidyCase,
   bad-text,
@@ -56,7 +56,7 @@ module _ {text : List ℕ} {quota : ℕ} {memory out : List ℕ} {r : Answer} {m
       go (ended {e = d} g fits) e = omega (arith, ending-at-most d)
 
   module _ (unrefused : Unrefused r) where
-    run : Ended (lent memory) quota text out r out′
+    run : EndedRun (lent memory) quota text out r out′
     run = run-ended call unrefused
 
     pub saved-at-most : (length (saved r out′) ≤ tokenLimit * numbers r .cells) × (length (saved r out′) ≤ tokenLimit * cellLimit)

@@ -11,14 +11,14 @@ use Rattle.plan.specs.Services.{ending-number, numbers}
 use Rattle.plan.proofs.Runs.{without-c-done, without-c-not-full}
 use Rattle.services.specs.Calls.{Runs}
 use Rattle.demands.specs.Words.{Bare, DONE, FULL, Reads, Unrefused, lent}
-use Rattle.demands.proofs.Cases.{Ended, run-ended}
+use Rattle.demands.proofs.Cases.{EndedRun, run-ended}
 use Rattle.demands.proofs.Meanings.{reads-one, reads-sound, sound-cells}
 use Rattle.demands.proofs.Numbers.{same-ending}
 
 module _ {text : List ℕ} {quota : ℕ} {memory out : List ℕ} {r : Answer} {memory′ out′ : List ℕ}
     (call : Runs text quota memory out r memory′ out′) (unrefused : Unrefused r)
     {p : Bare} (reads : Reads (lent memory) text p) (plain : WithoutC p) where
-  run : Ended (lent memory) quota text out r out′
+  run : EndedRun (lent memory) quota text out r out′
   run = run-ended call unrefused
 
   same : p ≡ run .ends .plan

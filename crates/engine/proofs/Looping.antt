@@ -39,7 +39,7 @@ pub record Reaches (text : List ℕ) (n quota : ℕ) (t₀ : Plan ℕ) (m : List
   pub counts : steps + left ≡ quota
   pub runs : run-plan n quota (bare t₀) ≡ plus steps (run-plan n left (bare plan))
 
-pub record Going (text m₀ : List ℕ) (h₀ : Held) (size₀ quota : ℕ) (m : List ℕ) (h : Held) (size steps : ℕ) : Type 0 where
+pub record RunSoFar (text m₀ : List ℕ) (h₀ : Held) (size₀ quota : ℕ) (m : List ℕ) (h : Held) (size steps : ℕ) : Type 0 where
   pub lent : Lent (h .outer .0) m
   pub same : h .outer ≡ h₀ .outer
   pub aside : Aside (h₀ .outer .0) m₀ m
@@ -47,9 +47,9 @@ pub record Going (text m₀ : List ℕ) (h₀ : Held) (size₀ quota : ℕ) (m :
   pub first : Sized text m₀ h₀ size₀ plan
   pub each : (t : Plan ℕ) → Sized text m₀ h₀ size₀ t → Reaches text (h₀ .outer .0) quota t m h size steps
 
-pub going-first : {text m : List ℕ} {h : Held} {size : ℕ} (quota : ℕ) → Runnable text m h size → Going text m h size quota m h size 0
+pub so-far-first : {text m : List ℕ} {h : Held} {size : ℕ} (quota : ℕ) → Runnable text m h size → RunSoFar text m h size quota m h size 0
 unfolding plus
-going-first quota k =
+so-far-first quota k =
     record {
       lent = k .lent;
       same = refl;
@@ -59,15 +59,15 @@ going-first quota k =
       each = λ t s. record { plan = t; sized = s; left = quota; counts = omega arith; runs = refl };
     }
 
-module _ {text m₀ : List ℕ} {h₀ : Held} {size₀ quota : ℕ} {m : List ℕ} {h : Held} {size steps : ℕ} (g : Going text m₀ h₀ size₀ quota m h size steps) where
-  pub going-runnable : Runnable text m h size
-  going-runnable = let r = g .each (g .plan) (g .first) in record { lent = g .lent; plan = r .plan; sized = r .sized }
+module _ {text m₀ : List ℕ} {h₀ : Held} {size₀ quota : ℕ} {m : List ℕ} {h : Held} {size steps : ℕ} (g : RunSoFar text m₀ h₀ size₀ quota m h size steps) where
+  pub so-far-runnable : Runnable text m h size
+  so-far-runnable = let r = g .each (g .plan) (g .first) in record { lent = g .lent; plan = r .plan; sized = r .sized }
 
   cells-same : h .outer .0 ≡ h₀ .outer .0
   cells-same = ap (λ (c : Cell). c .0) (g .same)
 
-  pub going-aside : {m′ : List ℕ} → Aside (h .outer .0) m m′ → Aside (h₀ .outer .0) m₀ m′
-  going-aside {m′} aside = aside-on (g .aside) (subst (λ k. Aside k m m′) cells-same aside)
+  pub so-far-aside : {m′ : List ℕ} → Aside (h .outer .0) m m′ → Aside (h₀ .outer .0) m₀ m′
+  so-far-aside {m′} aside = aside-on (g .aside) (subst (λ k. Aside k m m′) cells-same aside)
 
   -- the turn stopped the run
   stops : (m′ : List ℕ) (e : Ending) (t₀ : Plan ℕ) (r : Reaches text (h₀ .outer .0) quota t₀ m h size steps) → Turned text m h (ltb steps quota) m′ (Stopped e) (r .plan)
@@ -103,9 +103,9 @@ module _ {text m₀ : List ℕ} {h₀ : Held} {size₀ quota : ℕ} {m : List �
 
   -- the turn as it was made
   module _ (m′ : List ℕ) (turn : Turn) (turned : (t : Plan ℕ) → Sized text m h size t → Turned text m h (ltb steps quota) m′ turn t) where
-    pub going-stop : {e : Ending} → turn ≡ Stopped e → (t : Plan ℕ) → Sized text m₀ h₀ size₀ t
+    pub so-far-stop : {e : Ending} → turn ≡ Stopped e → (t : Plan ℕ) → Sized text m₀ h₀ size₀ t
         → RanAs text (h₀ .outer .0) quota t m′ (record { ending = e; steps = steps; held = h; size = size })
-    going-stop {e} is t s =
+    so-far-stop {e} is t s =
         let r = g .each t s in
         let (same, ended) = stops m′ e t r (subst (λ x. Turned text m h (ltb steps quota) m′ x (r .plan)) is (turned (r .plan) (r .sized))) in
         record {
@@ -118,21 +118,21 @@ module _ {text m₀ : List ℕ} {h₀ : Held} {size₀ quota : ℕ} {m : List �
       turned-on : (t : Plan ℕ) → Sized text m h size t → Turned text m h (ltb steps quota) m′ (Went h′ size′) t
       turned-on t s = subst (λ x. Turned text m h (ltb steps quota) m′ x t) is (turned t s)
 
-      pub going-more : steps < quota
-      going-more =
+      pub so-far-more : steps < quota
+      so-far-more =
           let r = g .each (g .plan) (g .first) in
           ltb-true steps quota (turned-on (r .plan) (r .sized) .0)
 
-      pub going-less : quota - (steps + 1) < quota - steps
-      going-less = let more = going-more in omega arith
+      pub so-far-less : quota - (steps + 1) < quota - steps
+      so-far-less = let more = so-far-more in omega arith
 
-      pub going-on : SameCells h turn → Aside (h .outer .0) m m′ → Going text m₀ h₀ size₀ quota m′ h′ size′ (steps + 1)
-      going-on same aside =
+      pub so-far-on : SameCells h turn → Aside (h .outer .0) m m′ → RunSoFar text m₀ h₀ size₀ quota m′ h′ size′ (steps + 1)
+      so-far-on same aside =
           let kept : h′ .outer ≡ h .outer = subst (SameCells h) is same in
           record {
             lent = subst (λ (c : Cell). Lent (c .0) m′) (sym kept) (lent-kept (g .lent) (aside .as-long));
             same = kept ∙ g .same;
-            aside = going-aside aside;
+            aside = so-far-aside aside;
             plan = g .plan;
             first = g .first;
             each = λ t s. (let r = g .each t s in went m′ h′ size′ t r (turned-on (r .plan) (r .sized)));

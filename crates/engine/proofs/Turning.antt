@@ -13,7 +13,7 @@ use Rattle.plan.specs.Running.{GO, ask}
 use Rattle.plan.specs.declared.Ending.the-variants.{Done, Quota, Full}
 use Rattle.plan.proofs.Frames.{ahead-top}
 use Rattle.plan.proofs.Runs.{ask-go}
-use Rattle.memory.specs.Held.{HeldIn, Rewritten}
+use Rattle.memory.specs.Held.{HeldIn, HeldAlike}
 use Rattle.memory.specs.declared.Held.{Held}
 use Rattle.hunt.specs.Hunting.{Finds, Huntable}
 use Rattle.hunt.specs.declared.Hunted.{Hunted}
@@ -92,7 +92,7 @@ module _ {text m : List ℕ} {h : Held} {size : ℕ} {r : Hunted} (finds : (t : 
             record { lent = k .lent; frame = there .0; before = there .1; after = there .2; rewrites = rewrites (k .plan) (k .sized) }
 
         pub turn-went : {m′ : List ℕ} {h′ : Held} (more : Bool) → not more ≡ false
-            → ((f : Frame ℕ) (q q′ : Plan ℕ) → Rewrites text m h spot f q q′ → Rewritten text m′ h′ (plug f q′))
+            → ((f : Frame ℕ) (q q′ : Plan ℕ) → Rewrites text m h spot f q q′ → HeldAlike text m′ h′ (plug f q′))
             → (t : Plan ℕ) → Sized text m h size t → Turned text m h more m′ (Went h′ after) t
         turn-went more is-more made t s =
             (allowed more is-more, (plug (found t s .0) (found t s .2), goes t s, made (found t s .0) (found t s .1) (found t s .2) (rewrites t s), is-next t s .1))

@@ -8,7 +8,7 @@ use Rattle.plan.specs.Frames.{Frame, plug}
 use Rattle.plan.specs.Plan.{Plan, bare, cells}
 use Rattle.plan.specs.Rewriting.{next}
 use Rattle.plan.specs.Running.{STOP, GO, ask, RAN, run-plan}
-use Rattle.memory.specs.Held.{HeldIn, Rewritten}
+use Rattle.memory.specs.Held.{HeldIn, HeldAlike}
 use Rattle.memory.specs.Model.{Lent}
 use Rattle.memory.specs.declared.Held.{Held}
 use Rattle.hunt.specs.Hunting.{Stands, cell-of}
@@ -47,7 +47,7 @@ Turned text m h more m′ (Stopped Done) t = (m′ ≡ m) × (ask (h .outer .0) 
 Turned text m h more m′ (Stopped Full) t = (m′ ≡ m) × (ask (h .outer .0) (next t) ≡ STOP Full)
 Turned text m h more m′ (Stopped Quota) t = (m′ ≡ m) × (more ≡ false) × ((p : Plan ℕ) × (ask (h .outer .0) (next t) ≡ GO p))
 Turned text m h more m′ (Went h′ size) t =
-    (more ≡ true) × ((p : Plan ℕ) × (ask (h .outer .0) (next t) ≡ GO p) × Rewritten text m′ h′ p × (size ≡ cells p))
+    (more ≡ true) × ((p : Plan ℕ) × (ask (h .outer .0) (next t) ≡ GO p) × HeldAlike text m′ h′ p × (size ≡ cells p))
 
 -- a plan that a turn goes on with is held in the same cells
 abbrev pub SameCells : Held → Turn → Type 0

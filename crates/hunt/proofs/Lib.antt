@@ -1,8 +1,8 @@
-pub mod Along
 pub mod Frames
-pub mod One
+pub mod HuntWalk
+pub mod OnePlan
 pub mod Scanning
 pub mod Standing
 pub mod Tests
-pub mod Walking
+pub mod WaysThrough
 pub mod Window

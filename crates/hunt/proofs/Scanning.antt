@@ -24,8 +24,8 @@ use Rattle.hunt.specs.Hunting.{SequenceAt, Scannable, Scanned, closes, r
 use Rattle.hunt.specs.declared.Spot.{Spot}
 use Rattle.hunt.specs.declared.Hunted.{Hunted}
 use Rattle.hunt.specs.declared.Hunted.the-variants.{Nothing, Ready}
-use Rattle.hunt.proofs.Along.{way-sequence, way-skip}
-use Rattle.hunt.proofs.One.{one-inside}
+use Rattle.hunt.proofs.WaysThrough.{way-sequence, way-skip}
+use Rattle.hunt.proofs.OnePlan.{one-inside}
 use Rattle.hunt.proofs.Window.{Seen, Tested, seen-token, seen-block, tested-operator}
 
 -- y are the items from the port `at` on
@@ -66,12 +66,12 @@ module _ {text m : List ℕ} {h : Held} {s : ℕ} (can : Scannable text m h s) w
       }
 
 -- what the test of an item gives: the walk goes on behind it; or the sequence's leftmost ready operator is there
-abbrev pub Outcome : (text m : List ℕ) → (n first stop last second at : ℕ) → Kind → Hunted → Type 0
-Outcome text m n first stop last second at kind Nothing =
+abbrev pub AfterTest : (text m : List ℕ) → (n first stop last second at : ℕ) → Kind → Hunted → Type 0
+AfterTest text m n first stop last second at kind Nothing =
     (count at′ : ℕ) → count ≡ closes kind → at′ ≡ link (whole n m first) (at + count)
     → Scanning text m n first stop (at + count) last second at′
     × (length (ahead (whole n m first) n stop at′) < length (ahead (whole n m first) n stop at))
-Outcome text m n first stop last second at kind (Ready spot) =
+AfterTest text m n first stop last second at kind (Ready spot) =
     (s : ℕ) × (q : Plan ℕ) × (stop ≡ close s) × SequenceAt text n (whole n m first) s q × Scanned (Ready spot) s q
 
 -- what is found in the one sequence inside the cell is found in every one
@@ -137,7 +137,7 @@ module _ {text m : List ℕ} {n first stop last second third at : ℕ} (h : Scan
       onward y p (start c) way (way-skip [] (start c) (ports p) from) (omega (arith, ap length e)) says window seen (at + count) at′ (omega (arith, from .leads .0)) a
 
   abbrev Then : Kind → Hunted → Type 0
-  Then kind r = Outcome text m n first stop last second at kind r
+  Then kind r = AfterTest text m n first stop last second at kind r
 
   tested : (c : ℕ) (o : Operator) (p : Plan ℕ) (r : Hunted) → Way w n stop at (ports (operator c o p)) → Says text w p
       → Tested r (h .cell) (h .sequence) (start c) last second p → Then (OPERATOR o) r

@@ -28,9 +28,9 @@ abbrev pub onward : (n : ℕ) → Frame ℕ → Plan ℕ → List ℕ
 onward n f z = ports z ++ close (cell-of n f) ∷ right n f
 
 -- the port is the first of the list
-abbrev First : ℕ → List ℕ → Type 0
-First port [] = ⊥
-First port (x ∷ xs) = port ≡ x
+abbrev FirstPort : ℕ → List ℕ → Type 0
+FirstPort port [] = ⊥
+FirstPort port (x ∷ xs) = port ≡ x
 
 -- at the opening of the sequence q
 pub record Opening (w : List ℕ) (n : ℕ) (t : Plan ℕ) (port : ℕ) : Type 0 where
@@ -46,12 +46,12 @@ pub record Passing (w : List ℕ) (n : ℕ) (t : Plan ℕ) (port : ℕ) : Type 0
   pub d : Plan ℕ
   pub z : Plan ℕ
   pub inside : Inside t frame d z
-  pub at : First port (onward n frame z)
+  pub at : FirstPort port (onward n frame z)
   pub chain : Linked w (onward n frame z)
 
 -- links
 
-first-linked : (w : List ℕ) (x : ℕ) (xs : List ℕ) (y : ℕ) (ys : List ℕ) → Linked w (x ∷ (xs ++ y ∷ ys)) → First (link w x) (xs ++ y ∷ ys)
+first-linked : (w : List ℕ) (x : ℕ) (xs : List ℕ) (y : ℕ) (ys : List ℕ) → Linked w (x ∷ (xs ++ y ∷ ys)) → FirstPort (link w x) (xs ++ y ∷ ys)
 first-linked w x [] y ys h = h .0
 first-linked w x (z ∷ xs) y ys h = h .0
 
@@ -102,11 +102,11 @@ module _ {text : List ℕ} {n : ℕ} {w : List ℕ} {free : ℕ} {t : Plan ℕ}
 
     -- an operator or a token
     pass-atom : (c : ℕ) (i p : Plan ℕ) {port : ℕ} → inner (i then p) ≡ under (i then_) (inner p) → ports (i then p) ≡ start c ∷ ports p
-        → opens w (start c) ≡ false → Inside t f d (i then p) → First port (onward n f (i then p)) → Linked w (onward n f (i then p))
+        → opens w (start c) ≡ false → Inside t f d (i then p) → FirstPort port (onward n f (i then p)) → Linked w (onward n f (i then p))
         → Standing w n t port
     pass-atom c i p {port} within-it same shut inside at chain =
         let behind = close (cell-of n f) ∷ right n f in
-        let here : port ≡ start c = subst (λ l. First port (l ++ behind)) same at in
+        let here : port ≡ start c = subst (λ l. FirstPort port (l ++ behind)) same at in
         let on : Linked w (start c ∷ onward n f p) = subst (λ l. Linked w (l ++ behind)) same chain in
         rw here (
         passed record {
@@ -120,7 +120,7 @@ module _ {text : List ℕ} {n : ℕ} {w : List ℕ} {free : ℕ} {t : Plan ℕ}
         )
 
   -- the close of a sequence
-  leave : (f : Frame ℕ) (d : Plan ℕ) (port : ℕ) → Inside t f d end → First port (onward n f end) → Linked w (onward n f end) → Standing w n t port
+  leave : (f : Frame ℕ) (d : Plan ℕ) (port : ℕ) → Inside t f d end → FirstPort port (onward n f end) → Linked w (onward n f end) → Standing w n t port
   unfolding ports right
   leave top d port inside at chain = at-end (inside-end inside) at
   leave (within b c out a) d port inside at chain =
@@ -138,7 +138,7 @@ module _ {text : List ℕ} {n : ℕ} {w : List ℕ} {free : ℕ} {t : Plan ℕ}
       )
 
   -- an item: the inside of a block opens
-  ahead-item : (f : Frame ℕ) (d z : Plan ℕ) (port : ℕ) → Inside t f d z → First port (onward n f z) → Linked w (onward n f z) → Standing w n t port
+  ahead-item : (f : Frame ℕ) (d z : Plan ℕ) (port : ℕ) → Inside t f d z → FirstPort port (onward n f z) → Linked w (onward n f z) → Standing w n t port
   unfolding ports right inner _then_
   ahead-item f d end port inside at chain = leave f d port inside at chain
   ahead-item f d (operator c o p) port inside at chain =

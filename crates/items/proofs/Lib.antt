@@ -1,3 +1,3 @@
-pub mod Ends
 pub mod Telling
 pub mod Tidying
+pub mod TokenEnd

@@ -27,33 +27,33 @@ use Rattle.plan.proofs.Tokens.{allowed-parts}
 use Rattle.pieces.specs.Written.{Is, is-operator, is-token, is-open, is-close, TokenAt}
 use Rattle.pieces.specs.declared.Piece.{Piece as CodePiece}
 use Rattle.pieces.specs.declared.Piece.the-variants.{Operator as an-op, Token, Open, Close}
-use Rattle.items.specs.Walk.{Ahead, Placed, Passed, Walked, TokenFrom, one-byte, one-token}
-use Rattle.items.specs.declared.Step.{Step}
-use Rattle.items.specs.declared.Step.the-variants.{End, Piece as StepPiece}
+use Rattle.items.specs.Walk.{ShowsAhead, LabelledAt, Passed, Walked, TokenFrom, one-byte, one-token}
+use Rattle.items.specs.declared.NextPiece.{NextPiece}
+use Rattle.items.specs.declared.NextPiece.the-variants.{End, Piece as AtPiece}
 
 -- the first piece is x, of one byte
-abbrev First : (at : ℕ) → PlanPiece ℕ → List ℕ → List (PlanPiece ℕ) → Type 0
-First at x bs ps = (later : List (PlanPiece ℕ)) × (ps ≡ x ∷ later) × Shows tokenLimit (at + 1) bs later
+abbrev FirstPiece : (at : ℕ) → PlanPiece ℕ → List ℕ → List (PlanPiece ℕ) → Type 0
+FirstPiece at x bs ps = (later : List (PlanPiece ℕ)) × (ps ≡ x ∷ later) × Shows tokenLimit (at + 1) bs later
 
 -- by the class of the byte at the place, with the bytes bs behind it
-abbrev Told : Class → (at : ℕ) → List ℕ → List (PlanPiece ℕ) → Type 0
-Told (OPERATOR o) at bs ps = First at (OP at o) bs ps
-Told OPEN at bs ps = First at (BEGIN at) bs ps
-Told CLOSE at bs ps = First at END bs ps
-Told BRACE at bs ps =
+abbrev ToldByClass : Class → (at : ℕ) → List ℕ → List (PlanPiece ℕ) → Type 0
+ToldByClass (OPERATOR o) at bs ps = FirstPiece at (OP at o) bs ps
+ToldByClass OPEN at bs ps = FirstPiece at (BEGIN at) bs ps
+ToldByClass CLOSE at bs ps = FirstPiece at END bs ps
+ToldByClass BRACE at bs ps =
     (t : List ℕ) × (f : Found tokenLimit bs t) × (later : List (PlanPiece ℕ)) × (ps ≡ TOKEN at t ∷ later) × Shows tokenLimit (at + (length t + 2)) (f .rest) later
-Told BLANK at bs ps = Shows tokenLimit (at + 1) bs ps
-Told BAD at bs ps = ⊥
+ToldByClass BLANK at bs ps = Shows tokenLimit (at + 1) bs ps
+ToldByClass BAD at bs ps = ⊥
 
-told : {at b : ℕ} {bs : List ℕ} {ps : List (PlanPiece ℕ)} → Shows tokenLimit at (b ∷ bs) ps → Told (class b) at bs ps
+told : {at b : ℕ} {bs : List ℕ} {ps : List (PlanPiece ℕ)} → Shows tokenLimit at (b ∷ bs) ps → ToldByClass (class b) at bs ps
 told (blank c s) = rw c s
 told (an-operator c s) = rw c (_, refl, s)
 told (a-token t c a s) = rw c (t, record { rest = _; splits = refl; fine = a }, _, refl, s)
 told (opens c s) = rw c (_, refl, s)
 told (closes c s) = rw c (_, refl, s)
 
-pub byte-told : (j : CodePiece) {at : ℕ} {p : Place} → p .0 ≡ at → StepPiece j p (record { at = at + 1 }) ≡ one-byte j at
-byte-told j {at} e = ap (λ n. StepPiece j (record { 0 = n }) (record { at = at + 1 })) e
+pub byte-told : (j : CodePiece) {at : ℕ} {p : Place} → p .0 ≡ at → AtPiece j p (record { at = at + 1 }) ≡ one-byte j at
+byte-told j {at} e = ap (λ n. AtPiece j (record { 0 = n }) (record { at = at + 1 })) e
 
 -- a token's end lies within the text, and within the token's limit
 pub record TokenEnds (text : List ℕ) (at fin : ℕ) : Type 0 where
@@ -76,26 +76,26 @@ token-ends {text} {at} f ends =
     }
 
 pub token-told : {at fin : ℕ} (t : List ℕ) {p : Place} {k : TextToken} → fin ≡ at + 1 + length t → p .0 ≡ at → k .at ≡ p → k .len ≡ fin + 1 - at
-    → StepPiece (Token k) p (record { at = fin + 1 }) ≡ one-token at t
+    → AtPiece (Token k) p (record { at = fin + 1 }) ≡ one-token at t
 token-told {at} {fin} t {p} {k} ends here there long =
     let len : k .len ≡ length t + 2 = omega arith in
     let behind : fin + 1 ≡ at + (length t + 2) = omega arith in
-    let made : ℕ → ℕ → ℕ → Step = λ a l b. StepPiece (Token (record { at = record { 0 = a }; len = l })) (record { 0 = a }) (record { at = b }) in
-    subst (λ q. StepPiece (Token k) q (record { at = fin + 1 }) ≡ one-token at t) there
+    let made : ℕ → ℕ → ℕ → NextPiece = λ a l b. AtPiece (Token (record { at = record { 0 = a }; len = l })) (record { 0 = a }) (record { at = b }) in
+    subst (λ q. AtPiece (Token k) q (record { at = fin + 1 }) ≡ one-token at t) there
     (ap (λ a. made a (k .len) (fin + 1)) (ap (λ (q : Place). q .0) there ∙ here) ∙ ap (λ l. made at l (fin + 1)) len ∙ ap (made at (length t + 2)) behind)
 
 -- what the walk knows where it stands, behind what meant nothing
-pub record Passing (text : List ℕ) (from at : ℕ) : Type 0 where
+pub record WalkSoFar (text : List ℕ) (from at : ℕ) : Type 0 where
   pub short : length text ≤ textLimit
   pub low : from ≤ at
   pub come : List (PlanPiece ℕ)
   pub shows : Shows tokenLimit at (drop at text) come
   pub still : (ps : List (PlanPiece ℕ)) → Shows tokenLimit from (drop from text) ps → Shows tokenLimit at (drop at text) ps
 
-pub passing-first : {text : List ℕ} {from : ℕ} → Ahead text from → Passing text from from
+pub passing-first : {text : List ℕ} {from : ℕ} → ShowsAhead text from → WalkSoFar text from from
 passing-first a = record { short = a .short; low = omega arith; come = a .come; shows = a .shows; still = λ ps s. s }
 
-module _ {text : List ℕ} {from at : ℕ} (p : Passing text from at) (inside : at < length text) where
+module _ {text : List ℕ} {from at : ℕ} (p : WalkSoFar text from at) (inside : at < length text) where
   abbrev b : ℕ
   b = getD text at 0
 
@@ -103,22 +103,22 @@ module _ {text : List ℕ} {from at : ℕ} (p : Passing text from at) (inside : 
   onward = drop-cons text at 0 inside ∙ rw add-one refl
 
   module _ {k : Class} (e : k ≡ class b) where
-    here : (c : Class) → k ≡ c → {ps : List (PlanPiece ℕ)} → Shows tokenLimit at (drop at text) ps → Told c at (drop (at + 1) text) ps
-    here c h {ps} s = subst (λ x. Told x at (drop (at + 1) text) ps) (sym e ∙ h) (told (subst (λ us. Shows tokenLimit at us ps) onward s))
+    here : (c : Class) → k ≡ c → {ps : List (PlanPiece ℕ)} → Shows tokenLimit at (drop at text) ps → ToldByClass c at (drop (at + 1) text) ps
+    here c h {ps} s = subst (λ x. ToldByClass x at (drop (at + 1) text) ps) (sym e ∙ h) (told (subst (λ us. Shows tokenLimit at us ps) onward s))
 
     byte : (c : Class) → k ≡ c → Byte c b
     byte c h = subst (λ x. Byte x b) (sym e ∙ h) (class-byte b)
 
-    pub pass-blank : k ≡ BLANK → Passing text from (at + 1)
+    pub pass-blank : k ≡ BLANK → WalkSoFar text from (at + 1)
     pass-blank h =
         record { short = p .short; low = omega (arith, p .low); come = p .come; shows = here BLANK h (p .shows); still = λ ps s. here BLANK h (p .still ps s) }
 
-    pub pass-bad : (r : Step) → k ≡ BAD → (ps : List (PlanPiece ℕ)) → Shows tokenLimit from (drop from text) ps → Walked text from r ps
+    pub pass-bad : (r : NextPiece) → k ≡ BAD → (ps : List (PlanPiece ℕ)) → Shows tokenLimit from (drop from text) ps → Walked text from r ps
     pass-bad r h ps s = absurd (here BAD h (p .shows))
 
     -- a piece of one byte
-    one-passed : (j : CodePiece) (x : PlanPiece ℕ) {ps : List (PlanPiece ℕ)} → Is text j x → Placed at x → piece-print x ≡ b ∷ []
-        → First at x (drop (at + 1) text) ps → Passed text from j at (at + 1) ps
+    one-passed : (j : CodePiece) (x : PlanPiece ℕ) {ps : List (PlanPiece ℕ)} → Is text j x → LabelledAt at x → piece-print x ≡ b ∷ []
+        → FirstPiece at x (drop (at + 1) text) ps → Passed text from j at (at + 1) ps
     one-passed j x is placed prints f =
         record {
           first = x;
@@ -132,7 +132,7 @@ module _ {text : List ℕ} {from at : ℕ} (p : Passing text from at) (inside : 
           within = omega arith;
         }
 
-    module _ (r : Step) where
+    module _ (r : NextPiece) where
       pub pass-operator : (o : Operator) → k ≡ OPERATOR o → r ≡ one-byte (an-op o) at
           → (ps : List (PlanPiece ℕ)) → Shows tokenLimit from (drop from text) ps → Walked text from r ps
       unfolding piece-print
@@ -170,7 +170,7 @@ module _ {text : List ℕ} {from at : ℕ} (p : Passing text from at) (inside : 
       token-there : TokenAt text at (length t + 2) t
       token-there = (inside-text, ap (take (length t + 2)) parts ∙ take-at whole (f .rest) (length t + 2) long)
 
-    pub pass-token : (r : Step) → k ≡ BRACE → ((t : List ℕ) → Found tokenLimit (drop (at + 1) text) t → r ≡ one-token at t)
+    pub pass-token : (r : NextPiece) → k ≡ BRACE → ((t : List ℕ) → Found tokenLimit (drop (at + 1) text) t → r ≡ one-token at t)
         → (ps : List (PlanPiece ℕ)) → Shows tokenLimit from (drop from text) ps → Walked text from r ps
     unfolding piece-print
     pass-token r h is ps s =
@@ -191,6 +191,6 @@ none-left : {at : ℕ} {ps : List (PlanPiece ℕ)} → Shows tokenLimit at [] ps
 none-left nothing = refl
 
 -- behind the last byte
-pub pass-end : {text : List ℕ} {from at : ℕ} → Passing text from at → length text ≤ at → (ps : List (PlanPiece ℕ)) → Shows tokenLimit from (drop from text) ps
+pub pass-end : {text : List ℕ} {from at : ℕ} → WalkSoFar text from at → length text ≤ at → (ps : List (PlanPiece ℕ)) → Shows tokenLimit from (drop from text) ps
     → Walked text from End ps
 pass-end {text} {from} {at} p past ps s = none-left (subst (λ us. Shows tokenLimit at us ps) (drop-of-length-le text past) (p .still ps s))

@@ -15,11 +15,11 @@ use Rattle.pieces.specs.Written.{piece-bytes, piece-length, put-at, InText}
 use Rattle.pieces.specs.declared.Piece.{Piece as CodePiece}
 use Rattle.pieces.proofs.Pieces.{is-in-text, is-printed, length-piece}
 use Rattle.pieces.proofs.Putting.{put-long, put-nothing, put-on}
-use Rattle.items.specs.Walk.{Ahead, Passed, Tidyable, Walked}
-use Rattle.items.specs.declared.Step.the-variants.{End}
+use Rattle.items.specs.Walk.{ShowsAhead, Passed, Tidyable, Walked}
+use Rattle.items.specs.declared.NextPiece.the-variants.{End}
 
 pub record Tidying (text out₀ : List ℕ) (from : ℕ) (out : List ℕ) (at put : ℕ) : Type 0 where
-  pub ahead : Ahead text at
+  pub ahead : ShowsAhead text at
   pub gone : List ℕ
   pub whole : without-blanks false text ≡ gone ++ in-a-row (ahead .come)
   pub room : from + length (without-blanks false text) ≤ length out₀

@@ -11,21 +11,21 @@ use Rattle.plan.specs.Reading.{place}
 use Rattle.pieces.specs.Written.{Is}
 use Rattle.pieces.specs.declared.Piece.{Piece as CodePiece}
 use Rattle.pieces.specs.declared.Piece.the-variants.{Token}
-use Rattle.items.specs.declared.Step.{Step}
-use Rattle.items.specs.declared.Step.the-variants.{End, Piece}
+use Rattle.items.specs.declared.NextPiece.{NextPiece}
+use Rattle.items.specs.declared.NextPiece.the-variants.{End, Piece}
 
 -- from the place on, the text shows pieces
-pub record Ahead (text : List ℕ) (at : ℕ) : Type 0 where
+pub record ShowsAhead (text : List ℕ) (at : ℕ) : Type 0 where
   pub short : length text ≤ textLimit
   pub come : List (PlanPiece ℕ)
   pub shows : Shows tokenLimit at (drop at text) come
 
 -- a piece that begins an item has its place as its label
-abbrev pub Placed : ℕ → PlanPiece ℕ → Type 0
-Placed at (OP l o) = l ≡ at
-Placed at (TOKEN l t) = l ≡ at
-Placed at (BEGIN l) = l ≡ at
-Placed at END = Unit {0}
+abbrev pub LabelledAt : ℕ → PlanPiece ℕ → Type 0
+LabelledAt at (OP l o) = l ≡ at
+LabelledAt at (TOKEN l t) = l ≡ at
+LabelledAt at (BEGIN l) = l ≡ at
+LabelledAt at END = Unit {0}
 
 -- the first of the pieces ps is k, at the place `at`; the others come from the place `rest` on
 pub record Passed (text : List ℕ) (from : ℕ) (k : CodePiece) (at rest : ℕ) (ps : List (PlanPiece ℕ)) : Type 0 where
@@ -33,21 +33,21 @@ pub record Passed (text : List ℕ) (from : ℕ) (k : CodePiece) (at rest : ℕ)
   pub later : List (PlanPiece ℕ)
   pub parts : ps ≡ first ∷ later
   pub is : Is text k first
-  pub placed : Placed at first
+  pub placed : LabelledAt at first
   pub prints : drop at text ≡ piece-print first ++ drop rest text
   pub shows : Shows tokenLimit rest (drop rest text) later
   pub ahead : from < rest
   pub within : rest ≤ length text
 
-abbrev pub Walked : (text : List ℕ) → (from : ℕ) → Step → List (PlanPiece ℕ) → Type 0
+abbrev pub Walked : (text : List ℕ) → (from : ℕ) → NextPiece → List (PlanPiece ℕ) → Type 0
 Walked text from End ps = ps ≡ []
 Walked text from (Piece k at rest) ps = Passed text from k (at .0) (rest .at) ps
 
-abbrev pub one-byte : CodePiece → ℕ → Step
+abbrev pub one-byte : CodePiece → ℕ → NextPiece
 one-byte k at = Piece k (place at) (record { at = at + 1 })
 
 -- the token with the text t, whose `{` stands at the place
-abbrev pub one-token : ℕ → List ℕ → Step
+abbrev pub one-token : ℕ → List ℕ → NextPiece
 one-token at t = Piece (Token (record { at = place at; len = length t + 2 })) (place at) (record { at = at + (length t + 2) })
 
 pub record TokenFrom (text : List ℕ) (at : ℕ) : Type 0 where

@@ -6,7 +6,7 @@ ghost use mathlib.Core.List.{List};
 ghost use lib.ListN.{length, drop};
 ghost use Rattle.kinds.specs.Limits.{textLimit, tokenLimit};
 ghost use Rattle.plan.specs.Pieces.{Found, Piece as PlanPiece, Shows};
-ghost use Rattle.items.specs.Walk.{Ahead, TokenFrom, Walked, one-byte, one-token};
+ghost use Rattle.items.specs.Walk.{ShowsAhead, TokenFrom, Walked, one-byte, one-token};
 use kinds::Place;
 use kinds::Token;
 use pieces::Piece;
@@ -23,7 +23,7 @@ pub struct Cursor {
 }
 
 // The next piece with the place of its first byte, and the walk behind it.
-pub enum Step {
+pub enum NextPiece {
     End,
     Piece {
         piece: Piece,
@@ -44,13 +44,13 @@ fn token_end(text: &[u8], from: usize) -> usize
     at
 }
 
-fn token_piece(text: &[u8], at: usize) -> Step
+fn token_piece(text: &[u8], at: usize) -> NextPiece
     requires { ⌜ TokenFrom (now text) at ⌝ }
     ensures { λ r. ⌜ ((t : List ℕ) → Found tokenLimit (drop (at + 1) (now (text .entry))) t → r ≡ one-token at t) ⌝ }
 {
     let end = token_end(text, at + 1);
     let place = Place::new(at);
-    Step::Piece {
+    NextPiece::Piece {
         piece: Piece::Token(Token::new(place, end + 1 - at)),
         at: place,
         rest: Cursor { at: end + 1 },
@@ -58,11 +58,11 @@ fn token_piece(text: &[u8], at: usize) -> Step
 }
 
 // A piece of one byte.
-fn byte_piece(piece: Piece, at: usize) -> Step
+fn byte_piece(piece: Piece, at: usize) -> NextPiece
     requires { ⌜ at < textLimit ⌝ }
     ensures { λ r. ⌜ r ≡ one-byte piece at ⌝ }
 {
-    Step::Piece {
+    NextPiece::Piece {
         piece,
         at: Place::new(at),
         rest: Cursor { at: at + 1 },
@@ -70,8 +70,8 @@ fn byte_piece(piece: Piece, at: usize) -> Step
 }
 
 // The next piece of an accepted text, from the cursor on, or its end.
-pub fn next(text: &[u8], cursor: Cursor) -> Step
-    requires { ⌜ Ahead (now text) (cursor .at) ⌝ }
+pub fn next(text: &[u8], cursor: Cursor) -> NextPiece
+    requires { ⌜ ShowsAhead (now text) (cursor .at) ⌝ }
     ensures { λ r. ⌜ ((ps : List (PlanPiece ℕ)) → Shows tokenLimit (cursor .at) (drop (cursor .at) (now (text .entry))) ps → Walked (now (text .entry)) (cursor .at) r ps) ⌝ }
 {
     let mut at = cursor.at;
@@ -83,8 +83,8 @@ pub fn next(text: &[u8], cursor: Cursor) -> Step
             Class::Close => return byte_piece(Piece::Close, at),
             Class::Brace => return token_piece(text, at),
             // An accepted text has no such byte.
-            Class::Bad => return Step::End,
+            Class::Bad => return NextPiece::End,
         }
     }
-    Step::End
+    NextPiece::End
 }

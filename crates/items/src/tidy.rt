@@ -7,7 +7,7 @@ ghost use Rattle.plan.specs.Pieces.{Shows, pieces};
 ghost use Rattle.pieces.specs.Written.{put-at};
 ghost use Rattle.items.specs.Walk.{Tidyable};
 use crate::Cursor;
-use crate::Step;
+use crate::NextPiece;
 use crate::next;
 use pieces::put_piece;
 
@@ -20,8 +20,8 @@ pub fn put_tidied(text: &[u8], out: &mut [u8], from: usize)
     let mut put = from;
     loop {
         match next(text, cursor) {
-            Step::End => return,
-            Step::Piece { piece, at, rest } => {
+            NextPiece::End => return,
+            NextPiece::Piece { piece, at, rest } => {
                 put_piece(text, piece, out, put);
                 put += piece.length() as usize;
                 cursor = rest;

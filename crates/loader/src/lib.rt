@@ -5,13 +5,13 @@ ghost use lib.ListN.{length};
 ghost use Rattle.kinds.specs.Limits.{textLimit, tokenLimit};
 ghost use Rattle.plan.specs.Plan.{Plan};
 ghost use Rattle.plan.specs.Reading.{PLAN, read};
-ghost use Rattle.memory.specs.Held.{Rewritten};
+ghost use Rattle.memory.specs.Held.{HeldAlike};
 ghost use Rattle.memory.specs.Model.{Lent, Aside};
 use builder::finish;
 use builder::fresh;
 use builder::put_piece;
 use items::Cursor;
-use items::Step;
+use items::NextPiece;
 use items::next;
 use kinds::Cell;
 use memory::Held;
@@ -19,7 +19,7 @@ use memory::Held;
 // The plan of the text, in the cells of the memory.
 pub fn build_plan(text: &[u8], memory: &mut [u32], outer: Cell) -> Held
     requires { ⌜ Lent (outer .0) (now memory) × (length (now text) ≤ textLimit) × ((p : Plan ℕ) × (read tokenLimit (outer .0) (now text) ≡ PLAN p)) ⌝ }
-    ensures holds { λ r. ⌜ ((p : Plan ℕ) → read tokenLimit (outer .0) (now (text .entry)) ≡ PLAN p → Rewritten (now (text .entry)) (now (memory .exit)) r p) ⌝ }
+    ensures holds { λ r. ⌜ ((p : Plan ℕ) → read tokenLimit (outer .0) (now (text .entry)) ≡ PLAN p → HeldAlike (now (text .entry)) (now (memory .exit)) r p) ⌝ }
     ensures same_cells { λ r. ⌜ r .outer ≡ outer ⌝ }
     ensures aside { λ r. ⌜ Aside (outer .0) (now (memory .entry)) (now (memory .exit)) ⌝ }
 {
@@ -27,8 +27,8 @@ pub fn build_plan(text: &[u8], memory: &mut [u32], outer: Cell) -> Held
     let mut cursor = Cursor { at: 0 };
     loop {
         match next(text, cursor) {
-            Step::End => return finish(memory, build),
-            Step::Piece { piece, at, rest } => {
+            NextPiece::End => return finish(memory, build),
+            NextPiece::Piece { piece, at, rest } => {
                 build = put_piece(memory, build, piece);
                 cursor = rest;
             }

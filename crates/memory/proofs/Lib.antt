@@ -1,5 +1,7 @@
+pub mod Along
 pub mod Beginning
 pub mod Beside
+pub mod BlockInPlan
 pub mod Building
 pub mod Clearing
 pub mod Freeing
@@ -8,10 +10,9 @@ pub mod Numbered
 pub mod Pieces
 pub mod Placing
 pub mod Ports
+pub mod PrintWalk
 pub mod Printing
 pub mod Putting
 pub mod Sharing
 pub mod Steps
-pub mod Walking
 pub mod Whole
-pub mod Within

@@ -17,13 +17,13 @@ use Rattle.memory.specs.Held.{HeldIn}
 use Rattle.memory.specs.Memory.{close, link, whole}
 use Rattle.memory.specs.Pieces.{piece-at, PrintsWithin}
 use Rattle.memory.specs.declared.Held.{Held}
-use Rattle.memory.proofs.Walking.{printed-ahead, held-prints, Walk, walk-first, ended, size, to-come, walk-fits, walk-on}
+use Rattle.memory.proofs.PrintWalk.{printed-ahead, held-prints, PrintWalk, walk-first, ended, size, to-come, walk-fits, walk-on}
 
 -- at the head of the loop: the walk, with room for the whole printed text, and the output
 pub record Putting (text m out₀ : List ℕ) (from : ℕ) (out : List ℕ) (n first port put : ℕ) : Type 0 where
   pub done : ℕ
   pub at : put ≡ from + done
-  pub walk : Walk from (length out₀) text m n first port done
+  pub walk : PrintWalk from (length out₀) text m n first port done
   pub holds : out ≡ put-at out₀ from (take done (printed-ahead text m n first first))
 
 pub put-first : (text m out : List ℕ) (h : Held) (from : ℕ) → PrintsWithin from (length out) text m h

@@ -7,7 +7,7 @@ use Rattle.plan.specs.Plan.{Plan, labels}
 use Rattle.plan.specs.Reading.{Around, outermost, inside}
 use Rattle.plan.specs.Pieces.{seen}
 use Rattle.memory.specs.Memory.{Building}
-use Rattle.memory.specs.Model.{Lent, Ready, Model, Built, Stepped, model}
+use Rattle.memory.specs.Model.{Lent, Buildable, Model, Built, Stepped, model}
 use Rattle.memory.specs.declared.Build.{Build}
 use Rattle.memory.proofs.Building.{root-low, tail-within}
 use Rattle.memory.proofs.Lists.{below-split}
@@ -34,7 +34,7 @@ opened-low outermost b =
 opened-low (inside c before out) b = let low = opened-lent b in omega arith
 
 pub building-ready : {m : List ℕ} {b : Build} {n : ℕ} {text : List ℕ} {root : ℕ} {others : List ℕ} {out : Around} {here : Plan ℕ} → b .outer .0 ≡ n → Lent n m
-    → Built text n (model m b) root others out here → Ready m b
+    → Built text n (model m b) root others out here → Buildable m b
 building-ready {m} {out = out} e lent h =
     let within = tail-within h in
     let room = h .shared .room in

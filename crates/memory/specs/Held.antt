@@ -17,7 +17,7 @@ abbrev pub HeldIn : (text m : List ℕ) → Held → Plan ℕ → Type 0
 HeldIn text m h t = Holds text (h .outer .0) (held-numbers m h) (h .free .0) t
 
 -- the memory holds the plan, but for its cells
-pub record Rewritten (text m : List ℕ) (h : Held) (p : Plan ℕ) : Type 0 where
+pub record HeldAlike (text m : List ℕ) (h : Held) (p : Plan ℕ) : Type 0 where
   pub plan : Plan ℕ
   pub alike : bare plan ≡ bare p
   pub held : HeldIn text m h plan

@@ -40,7 +40,7 @@ abbrev pub Built : (text : List ℕ) → (n : ℕ) → Model → (root : ℕ) �
 Built text n s root others out here = Building text n (s .numbers) root others (s .tail) (s .opened) (s .free) out here
 
 -- a step can be made: there is room, and what is kept beside the numbers is within it
-pub record Ready (m : List ℕ) (b : Build) : Type 0 where
+pub record Buildable (m : List ℕ) (b : Build) : Type 0 where
   pub lent : Lent (b .outer .0) m
   pub tail : b .tail .0 ≤ start (b .outer .0)
   pub opened : b .opened .0 ≤ b .outer .0
@@ -124,7 +124,7 @@ FindsCell free opened n Open = free < n
 FindsCell free opened n Close = opened < n
 
 pub record PieceReady (m : List ℕ) (b : Build) (k : Piece) : Type 0 where
-  pub ready : Ready m b
+  pub ready : Buildable m b
   pub finds : FindsCell (b .free .0) (b .opened .0) (b .outer .0) k
 
 -- a block begun in the first free cell, that no port links to: what is put then is its inside

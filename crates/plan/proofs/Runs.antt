@@ -15,12 +15,12 @@ use Rattle.plan.specs.Plan.{Plan, cells, relabel, renamed, WithoutC}
 use Rattle.plan.specs.Token.{Allowed}
 use Rattle.plan.specs.Options.{under}
 use Rattle.plan.specs.Rewriting.{_⟶_, next}
-use Rattle.plan.specs.Running.{Turn, STOP, GO, ask, Ran, RAN, turn, one-more, run-plan, Leads}
+use Rattle.plan.specs.Running.{Asked, STOP, GO, ask, Ran, RAN, turn, one-more, run-plan, Leads}
 use Rattle.plan.proofs.Plans.{cells-relabel, cells-changed}
 use Rattle.plan.proofs.Rewrites.{next-step, next-relabel, next-renamed, step-allowed, step-without-c, step-smaller}
 
 -- the ending of a run that makes no more steps, by what its last turn answered
-unfoldable pub ending : {L : Type 0} → Turn L → Ending
+unfoldable pub ending : {L : Type 0} → Asked L → Ending
 ending (STOP e) = e
 ending (GO q) = Quota
 
@@ -108,7 +108,7 @@ module _ {L : Type 0} (n : ℕ) where
   unfolding run-plan turn one-more
   runs zero p = by-turn (ask n (next p)) refl
     where
-      by-turn : (t : Turn L) → ask n (next p) ≡ t → Of (Run n 0 p) (turn t p (λ q. RAN Quota 0 p))
+      by-turn : (t : Asked L) → ask n (next p) ≡ t → Of (Run n 0 p) (turn t p (λ q. RAN Quota 0 p))
       by-turn (STOP e) h = stop h
       by-turn (GO r) h = spent h
   runs (suc quota) p = by-turn (runs quota) (ask n (next p)) refl
@@ -117,7 +117,7 @@ module _ {L : Type 0} (n : ℕ) where
           Of (Run n (suc quota) p) (one-more x)
       longer h (RAN e steps q) ran = go h ran
 
-      by-turn : ((r : Plan L) → Of (Run n quota r) (run-plan n quota r)) → (t : Turn L) → ask n (next p) ≡ t →
+      by-turn : ((r : Plan L) → Of (Run n quota r) (run-plan n quota r)) → (t : Asked L) → ask n (next p) ≡ t →
           Of (Run n (suc quota) p) (turn t p (λ r. one-more (run-plan n quota r)))
       by-turn after (STOP e) h = stop h
       by-turn after (GO r) h = longer h (run-plan n quota r) (after r)
@@ -259,7 +259,7 @@ module _ {L : Type 0} where
   run-add n j k p ran after = joins k (ran-run n j p ran) after
 
 -- A run goes the same way under a change of plans that keeps the cells and goes along with the next rewrite.
-unfoldable pub retell : {L M : Type 0} → (Plan L → Plan M) → Turn L → Turn M
+unfoldable pub retell : {L M : Type 0} → (Plan L → Plan M) → Asked L → Asked M
 retell change (STOP e) = STOP e
 retell change (GO q) = GO (change q)
 
@@ -274,7 +274,7 @@ module _ {L M : Type 0} (change : Plan L → Plan M) (as-large : (p : Plan L) �
       by-test true = refl
       by-test false = refl
 
-  ask-changed : (n : ℕ) (p : Plan L) {t : Turn L} → ask n (next p) ≡ t → ask n (next (change p)) ≡ retell change t
+  ask-changed : (n : ℕ) (p : Plan L) {t : Asked L} → ask n (next p) ≡ t → ask n (next (change p)) ≡ retell change t
   ask-changed n p h = ap (ask n) (along p) ∙ (ask-under n (next p) ∙ ap (retell change) h)
 
   goes-along : {n quota : ℕ} {p : Plan L} {e : Ending} {steps : ℕ} {q : Plan L} → Run n quota p e steps q →
@@ -290,7 +290,7 @@ module _ {L M : Type 0} (change : Plan L → Plan M) (as-large : (p : Plan L) �
 
 -- No turn looks at a label,
 module _ {L M : Type 0} (f : L → M) where
-  pub ask-relabel : (n : ℕ) (p : Plan L) {t : Turn L} → ask n (next p) ≡ t → ask n (next (relabel f p)) ≡ retell (relabel f) t
+  pub ask-relabel : (n : ℕ) (p : Plan L) {t : Asked L} → ask n (next p) ≡ t → ask n (next (relabel f p)) ≡ retell (relabel f) t
   ask-relabel = ask-changed (relabel f) (cells-relabel f) (next-relabel f)
 
   pub run-relabel : (n quota : ℕ) (p : Plan L) {e : Ending} {steps : ℕ} {q : Plan L} →

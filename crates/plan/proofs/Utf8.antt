@@ -111,41 +111,41 @@ value-valued (suc n) v (c ∷ bs) =
     longer t none r = tt
     longer t (some u) r = (omega arith, next (true-follows c t) (r .1))
 
-abbrev Reads : List ℕ → Character → Type 0
-Reads bs Malformed = Unit {0}
-Reads bs (Whole v w) = (w ≤ length bs) × Spells (take w bs) v
+abbrev SpelledAt : List ℕ → Character → Type 0
+SpelledAt bs Malformed = Unit {0}
+SpelledAt bs (Whole v w) = (w ≤ length bs) × Spells (take w bs) v
 
 module _ (b : ℕ) (bs : List ℕ) where
-  form-reads : {n from to least : ℕ} → Form n from to least → (from ≤ b) × (b < to) → Reads (b ∷ bs) (well-formed (suc n) least (value n (b - from) bs))
+  form-reads : {n from to least : ℕ} → Form n from to least → (from ≤ b) × (b < to) → SpelledAt (b ∷ bs) (well-formed (suc n) least (value n (b - from) bs))
   unfolding well-formed
   form-reads {n} {from} {to} {least} f h = go (value n (b - from) bs) (value-valued n (b - from) bs)
     where
-      go : (o : Option ℕ) → Valued n (b - from) bs o → Reads (b ∷ bs) (well-formed (suc n) least o)
+      go : (o : Option ℕ) → Valued n (b - from) bs o → SpelledAt (b ∷ bs) (well-formed (suc n) least o)
       go none r = tt
       go (some v) r =
           either-way
-          (Reads (b ∷ bs))
+          (SpelledAt (b ∷ bs))
           (leb least v && scalar v)
           (λ t. let t′ = and-eq-true-iff _ _ .0 t in (omega arith, spell f h (r .1) (leb-true _ _ (t′ .0)) (true-scalar v (t′ .1))))
           (λ t. tt)
 
-  first-reads : Reads (b ∷ bs) (character (b ∷ bs))
+  first-reads : SpelledAt (b ∷ bs) (character (b ∷ bs))
   unfolding character
   first-reads =
-      let P = Reads (b ∷ bs) in
+      let P = SpelledAt (b ∷ bs) in
       below-or-not P b 0x80 (λ h. (omega arith, alone b h)) λ l.
       below-or-not P b 0xC0 (λ h. tt) λ l.
       below-or-not P b 0xE0 (λ h. form-reads two (l, h)) λ l.
       below-or-not P b 0xF0 (λ h. form-reads three (l, h)) λ l.
       below-or-not P b 0xF8 (λ h. form-reads four (l, h)) λ l. tt
 
-character-reads : (bs : List ℕ) → Reads bs (character bs)
+character-reads : (bs : List ℕ) → SpelledAt bs (character bs)
 unfolding character
 character-reads [] = tt
 character-reads (b ∷ bs) = first-reads b bs
 
 read : (bs : List ℕ) {v w : ℕ} → character bs ≡ Whole v w → (w ≤ length bs) × Spells (take w bs) v
-read bs e = subst (Reads bs) e (character-reads bs)
+read bs e = subst (SpelledAt bs) e (character-reads bs)
 
 spelled : (bs rest : List ℕ) {v : ℕ} → character (bs ++ rest) ≡ Whole v (length bs) → Spells bs v
 spelled bs rest {v} e = subst (λ l. Spells l v) (take-append-seam bs rest) (read (bs ++ rest) e .1)
@@ -228,17 +228,17 @@ abbrev Tails : List Range → Type 0
 Tails [] = Unit {0}
 Tails (r ∷ rs) = (0x80 ≤ r .low) × (r .high < 0xC0) × Tails rs
 
-data Sound (r : Range) (rs : List Range) : Type 0 where
+data SoundRow (r : Range) (rs : List Range) : Type 0 where
   sound :
       {from to least : ℕ} → Form (length rs) from to least
       → (from ≤ r .low) × (r .high < to) × Tails rs × (least ≤ lowest (r .low - from) rs)
       → (highest (r .high - from) rs < 0xD800) ⊎ ((0xDFFF < lowest (r .low - from) rs) × (highest (r .high - from) rs ≤ 0x10FFFF))
-      → Sound r rs
+      → SoundRow r rs
 
 abbrev AllSound : List (List Range) → Type 0
 AllSound [] = Unit {0}
 AllSound ([] ∷ rows) = ⊥
-AllSound ((r ∷ rs) ∷ rows) = Sound r rs × AllSound rows
+AllSound ((r ∷ rs) ∷ rows) = SoundRow r rs × AllSound rows
 
 -- pairs without their parentheses
 infixr 5 _also_
@@ -266,7 +266,7 @@ following-between (r ∷ rs) (b ∷ bs) lo v hi i t m =
     let (u, f, l, h) = following-between rs bs (lo * 64 + (r .low - 0x80)) (v * 64 + (b - 0x80)) (hi * 64 + (r .high - 0x80)) (omega arith) (t .2) (m .2) in
     (u, next {c = b} {u = u} (omega arith) f, l, h)
 
-sound-spells : {r : Range} {rs : List Range} → Sound r rs → (bs : List ℕ) → Matches (r ∷ rs) bs → (v : ℕ) × Spells bs v
+sound-spells : {r : Range} {rs : List Range} → SoundRow r rs → (bs : List ℕ) → Matches (r ∷ rs) bs → (v : ℕ) × Spells bs v
 sound-spells (sound f h s) [] m = absurd m
 sound-spells {r} {rs} (sound {from} f h s) (b ∷ bs) m =
     let (v, g, lo, hi) = following-between rs bs (r .low - from) (b - from) (r .high - from) (omega arith) (h .2) (m .2) in

@@ -10,11 +10,11 @@ use Rattle.plan.specs.Plan.{Plan, cells}
 use Rattle.plan.specs.Rewriting.{next}
 
 -- what is asked before a step, but for the quota: the run ends, or goes on with the next plan
-pub data Turn (L : Type 0) : Type 0 where
-  STOP : Ending → Turn L
-  GO : Plan L → Turn L
+pub data Asked (L : Type 0) : Type 0 where
+  STOP : Ending → Asked L
+  GO : Plan L → Asked L
 
-unfoldable pub ask : {L : Type 0} → (n : ℕ) → Option (Plan L) → Turn L
+unfoldable pub ask : {L : Type 0} → (n : ℕ) → Option (Plan L) → Asked L
 ask n none = STOP Done
 ask n (some q) = cond (leb (cells q) n) (GO q) (STOP Full)
 
@@ -22,7 +22,7 @@ ask n (some q) = cond (leb (cells q) n) (GO q) (STOP Full)
 pub data Ran (L : Type 0) : Type 0 where
   RAN : Ending → (steps : ℕ) → Plan L → Ran L
 
-unfoldable pub turn : {L : Type 0} → Turn L → Plan L → (Plan L → Ran L) → Ran L
+unfoldable pub turn : {L : Type 0} → Asked L → Plan L → (Plan L → Ran L) → Ran L
 turn (STOP e) p after = RAN e 0 p
 turn (GO q) p after = after q
 

@@ -10,7 +10,7 @@ use Rattle.plan.specs.declared.Numbers.{Numbers}
 use Rattle.plan.specs.Plan.{open-brace, close-brace}
 use Rattle.plan.specs.Services.{numbers, run, standard}
 
-pub record Row : Type 0 where
+pub record WorkedRow : Type 0 where
   pub text : List ℕ
   pub quota : ℕ
   pub cells : ℕ
@@ -27,7 +27,7 @@ five number steps cells length place =
     record { number = number; steps = steps; cells = cells; length = length; place = place }
 
 -- a text, the quota, the cells lent; number, steps, cells, length and place; the printed text
-abbrev pub row : String → (quota cells number steps resulting length place : ℕ) → String → Row
+abbrev pub row : String → (quota cells number steps resulting length place : ℕ) → String → WorkedRow
 row text quota cells number steps resulting length place printed =
     record {
       text = bytes text;
@@ -41,14 +41,14 @@ row text quota cells number steps resulting length place printed =
 abbrev pub braced : List ℕ → List ℕ
 braced bs = open-brace ∷ (bs ++ close-brace ∷ [])
 
-abbrev pub token-read : List ℕ → Row
+abbrev pub token-read : List ℕ → WorkedRow
 token-read bs =
     record { text = braced bs; quota = 0; cells = 1; numbers = five 0 0 1 (length (braced bs)) 0; printed = braced bs }
 
-abbrev pub token-refused : List ℕ → Row
+abbrev pub token-refused : List ℕ → WorkedRow
 token-refused bs = record { text = braced bs; quota = 0; cells = 1; numbers = five 14 0 0 0 0; printed = [] }
 
-unfoldable pub worked : List Row
+unfoldable pub worked : List WorkedRow
 worked =
     row "" 100 0 0 0 0 0 0 "" ∷
     row "[{x}][{y}]a" 100 cellLimit 0 1 3 8 0 "{y}[{x}]" ∷
@@ -90,10 +90,10 @@ pub record Told : Type 0 where
 unfoldable pub sheet : List ℕ
 sheet = replicate 70 7
 
-unfoldable pub answered : Row → Told
+unfoldable pub answered : WorkedRow → Told
 answered r =
     let w = run standard (r .text) (r .quota) (cellNumbers * r .cells) sheet in
     record { says = numbers (w .answer); holds = w .output }
 
-unfoldable pub expected : Row → Told
+unfoldable pub expected : WorkedRow → Told
 expected r = record { says = r .numbers; holds = r .printed ++ drop (length (r .printed)) sheet }

@@ -25,8 +25,8 @@ use Rattle.plan.specs.declared.TextFault.the-variants.{BadByte, Unmatched, Uncl
 use Rattle.reader.specs.Counting.{one-item, opened, closed, stepped, in-token, finished}
 use Rattle.reader.specs.declared.Count.{Count}
 use Rattle.reader.specs.declared.InToken.the-variants.{Further, Close, Bad}
-use Rattle.reader.specs.declared.Step.{Step}
-use Rattle.reader.specs.declared.Step.the-variants.{On, Token, Stop}
+use Rattle.reader.specs.declared.ByteStep.{ByteStep}
+use Rattle.reader.specs.declared.ByteStep.the-variants.{On, Token, Stop}
 use Rattle.reader.specs.declared.Surveyed.the-variants.{Accepted, Refused}
 
 module _ (n : Count) (at room bytes : ℕ) where
@@ -48,7 +48,7 @@ module _ (n : Count) (b at room : ℕ) {k : Class} (e : k ≡ class b) where
   unfolding stepped
   step-open r h g = rw (sym e ∙ h) (ap On g)
 
-  pub step-close : (r : Step) → k ≡ CLOSE → r ≡ stepped n CLOSE at room → r ≡ stepped n (class b) at room
+  pub step-close : (r : ByteStep) → k ≡ CLOSE → r ≡ stepped n CLOSE at room → r ≡ stepped n (class b) at room
   step-close r h g = rw (sym e ∙ h) g
 
   pub step-brace : k ≡ BRACE → Token ≡ stepped n (class b) at room

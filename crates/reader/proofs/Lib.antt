@@ -1,5 +1,5 @@
 pub mod Counted
-pub mod Going
-pub mod Inside
-pub mod Scanned
+pub mod SurveySoFar
 pub mod Surveys
+pub mod Taken
+pub mod TokenSoFar

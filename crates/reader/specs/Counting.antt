@@ -16,8 +16,8 @@ use Rattle.plan.specs.declared.TextFault.the-variants.{BadByte, Unmatched, Uncl
 use Rattle.reader.specs.declared.Count.{Count}
 use Rattle.reader.specs.declared.InToken.{InToken}
 use Rattle.reader.specs.declared.InToken.the-variants.{Further, Close, Bad}
-use Rattle.reader.specs.declared.Step.{Step}
-use Rattle.reader.specs.declared.Step.the-variants.{On, Token, Stop}
+use Rattle.reader.specs.declared.ByteStep.{ByteStep}
+use Rattle.reader.specs.declared.ByteStep.the-variants.{On, Token, Stop}
 use Rattle.reader.specs.declared.Surveyed.{Surveyed}
 use Rattle.reader.specs.declared.Surveyed.the-variants.{Accepted, Refused}
 
@@ -47,7 +47,7 @@ abbrev pub closed : Count → Count
 closed n = record { depth = n .depth - 1; cells = n .cells; length = n .length + 1; past = n .past }
 
 -- one byte outside tokens, by its class
-unfoldable pub stepped : Count → Class → (at room : ℕ) → Step
+unfoldable pub stepped : Count → Class → (at room : ℕ) → ByteStep
 stepped n (OPERATOR o) at room = On (one-item n at room 1)
 stepped n OPEN at room = On (opened n at room)
 stepped n CLOSE at room = cond (eqb (n .depth) 0) (Stop (Unmatched (place at))) (On (closed n))

@@ -30,7 +30,7 @@ pub struct Count {
 }
 
 // What one byte outside tokens does.
-pub enum Step {
+pub enum ByteStep {
     On(Count),
     Token,
     Stop(TextFault),
@@ -86,15 +86,15 @@ fn open_block(count: Count, at: usize, room: u32) -> Count
     }
 }
 
-fn close_block(count: Count, at: usize, room: u32) -> Step
+fn close_block(count: Count, at: usize, room: u32) -> ByteStep
     requires { ⌜ Small count × (at ≤ textLimit) ⌝ }
     ensures { λ r. ⌜ r ≡ stepped count CLOSE at room ⌝ }
 {
     if count.depth == 0 {
-        return Step::Stop(TextFault::Unmatched(Place::new(at)));
+        return ByteStep::Stop(TextFault::Unmatched(Place::new(at)));
     }
     let past = count.past;
-    Step::On(Count {
+    ByteStep::On(Count {
         depth: count.depth - 1,
         cells: count.cells,
         length: count.length + 1,
@@ -102,17 +102,17 @@ fn close_block(count: Count, at: usize, room: u32) -> Step
     })
 }
 
-fn read_byte(count: Count, byte: u8, at: usize, room: u32) -> Step
+fn read_byte(count: Count, byte: u8, at: usize, room: u32) -> ByteStep
     requires { ⌜ Small count × (at ≤ textLimit) ⌝ }
     ensures { λ r. ⌜ r ≡ stepped count (class byte) at room ⌝ }
 {
     match class_of(byte) {
-        Class::Operator(_) => Step::On(one_item(count, at, room, 1)),
-        Class::Open => Step::On(open_block(count, at, room)),
+        Class::Operator(_) => ByteStep::On(one_item(count, at, room, 1)),
+        Class::Open => ByteStep::On(open_block(count, at, room)),
         Class::Close => close_block(count, at, room),
-        Class::Brace => Step::Token,
-        Class::Blank => Step::On(count),
-        Class::Bad => Step::Stop(TextFault::BadByte(Place::new(at))),
+        Class::Brace => ByteStep::Token,
+        Class::Blank => ByteStep::On(count),
+        Class::Bad => ByteStep::Stop(TextFault::BadByte(Place::new(at))),
     }
 }
 
@@ -172,12 +172,12 @@ pub fn survey(text: &[u8], room: u32) -> Surveyed
             return finish(count, at, room);
         }
         match read_byte(count, text[at], at, room) {
-            Step::On(next) => {
+            ByteStep::On(next) => {
                 count = next;
                 at += 1;
             }
-            Step::Stop(fault) => break 'items fault,
-            Step::Token => {
+            ByteStep::Stop(fault) => break 'items fault,
+            ByteStep::Token => {
                 let mut end = at + 1;
                 loop {
                     match token_byte(text, end, end - at - 1) {

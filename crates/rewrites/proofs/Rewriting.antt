@@ -9,7 +9,7 @@ use Rattle.plan.specs.Plan.{Plan, end, operator, block, _then_, bare, cells, la
 use Rattle.plan.specs.declared.Operator.{Operator}
 use Rattle.plan.specs.declared.Operator.the-variants.{A as op-a, B as op-b, C as op-c, D as op-d}
 use Rattle.plan.proofs.Plans.{then-assoc}
-use Rattle.memory.specs.Held.{HeldIn, Rewritten, held-numbers}
+use Rattle.memory.specs.Held.{HeldIn, HeldAlike, held-numbers}
 use Rattle.memory.specs.Memory.{start, close, Below, Holds}
 use Rattle.memory.specs.Model.{Lent}
 use Rattle.memory.specs.declared.Held.{Held}
@@ -106,23 +106,23 @@ module _ {text m : List ℕ} {h : Held} {spot : Spot} {f : Frame ℕ} {q q′ : 
           record { lent = spliced-lent s lent; text = text; frame = f; front = X; contents = k .newer; behind = p; at = still; held = out k }
 
     module _ {m′ : List ℕ} {h′ : Held} where
-      exactly : {x : Plan ℕ} → q′ ≡ x → HeldIn text m′ h′ (plug f x) → Rewritten text m′ h′ (plug f q′)
+      exactly : {x : Plan ℕ} → q′ ≡ x → HeldIn text m′ h′ (plug f x) → HeldAlike text m′ h′ (plug f q′)
       exactly {x} e held = record { plan = plug f x; alike = ap (λ y. bare (plug f y)) (sym e); held = held }
 
-      pub makes-a : spot .which ≡ op-a → RuleA m₁ h₁ m′ h′ (spot .before .0) (spot .older .0) (spot .newer .0) → Rewritten text m′ h′ (plug f q′)
+      pub makes-a : spot .which ≡ op-a → RuleA m₁ h₁ m′ h′ (spot .before .0) (spot .older .0) (spot .newer .0) → HeldAlike text m′ h′ (plug f q′)
       unfolding _then_
       makes-a is made = let k = stands-rule (r .stands) is in exactly (k .gives) (made text f X (k .older) (k .newer) p still (out k))
 
-      pub makes-b : spot .which ≡ op-b → RuleB m₁ h₁ m′ h′ (spot .before .0) (spot .older .0) (spot .newer .0) → Rewritten text m′ h′ (plug f q′)
+      pub makes-b : spot .which ≡ op-b → RuleB m₁ h₁ m′ h′ (spot .before .0) (spot .older .0) (spot .newer .0) → HeldAlike text m′ h′ (plug f q′)
       unfolding _then_
       makes-b is made = let k = stands-rule (r .stands) is in exactly (k .gives) (made text f X (k .older) (k .newer) p still (out k))
 
-      pub makes-c : spot .which ≡ op-c → RuleC text m₁ h₁ m′ h′ (spot .newer .0) → Rewritten text m′ h′ (plug f q′)
+      pub makes-c : spot .which ≡ op-c → RuleC text m₁ h₁ m′ h′ (spot .newer .0) → HeldAlike text m′ h′ (plug f q′)
       unfolding _then_
       makes-c is made =
           let k = stands-rule (r .stands) is in
-          subst (λ x. Rewritten text m′ h′ (plug f x)) (sym (k .gives)) (made f X (k .newer) p (out k) (room (k .gives)))
+          subst (λ x. HeldAlike text m′ h′ (plug f x)) (sym (k .gives)) (made f X (k .newer) p (out k) (room (k .gives)))
 
-      pub makes-d : spot .which ≡ op-d → RuleD m₁ h₁ m′ h′ (spot .before .0) (spot .newer .0) → Rewritten text m′ h′ (plug f q′)
+      pub makes-d : spot .which ≡ op-d → RuleD m₁ h₁ m′ h′ (spot .before .0) (spot .newer .0) → HeldAlike text m′ h′ (plug f q′)
       unfolding _then_
       makes-d is made = let k = stands-rule (r .stands) is in exactly (k .gives) (made text f X (k .newer) p still (out k))

@@ -21,12 +21,12 @@ pub last-split : (x : ℕ) (xs : List ℕ) → Last x xs
 last-split x [] = record { before = []; parts = refl }
 last-split x (y ∷ ys) = let r = last-split y ys in record { before = x ∷ r .before; parts = ap (x ∷_) (r .parts) }
 
-pub record First (l : List ℕ) : Type 0 where
+pub record HasFirst (l : List ℕ) : Type 0 where
   pub first : ℕ
   pub rest : List ℕ
   pub parts : l ≡ first ∷ rest
 
-pub first-split : (xs : List ℕ) (y : ℕ) (ys : List ℕ) → First (xs ++ y ∷ ys)
+pub first-split : (xs : List ℕ) (y : ℕ) (ys : List ℕ) → HasFirst (xs ++ y ∷ ys)
 first-split [] y ys = record { first = y; rest = ys; parts = refl }
 first-split (x ∷ xs) y ys = record { first = x; rest = xs ++ y ∷ ys; parts = refl }
 

@@ -17,7 +17,7 @@ use Rattle.memory.specs.declared.Held.{Held}
 use Rattle.memory.proofs.Lists.{below-split}
 use Rattle.memory.proofs.Whole.{aside-on, lent-kept}
 use Rattle.blocks.specs.Blocks.{Alone, Leaves, first-free, freed}
-use Rattle.blocks.proofs.Inside.{block-alone}
+use Rattle.blocks.proofs.LinkedBlock.{block-alone}
 use Rattle.copier.specs.Copying.{Copies, Copyable, CopyMade}
 use Rattle.copier.specs.declared.Copied.{Copied}
 use Rattle.rewrites.specs.Rules.{DropBlock, OneBlock, RuleA, RuleB, RuleC, RuleD, TwoBlocks, at-end}

@@ -5,7 +5,7 @@ use mathlib.Core.Path.{_≡_}
 use mathlib.Core.List.{List}
 use Rattle.plan.specs.Frames.{Frame, plug}
 use Rattle.plan.specs.Plan.{Plan, block, _then_, cells}
-use Rattle.memory.specs.Held.{HeldIn, Rewritten}
+use Rattle.memory.specs.Held.{HeldIn, HeldAlike}
 use Rattle.memory.specs.Model.{Lent}
 use Rattle.memory.specs.declared.Held.{Held}
 use Rattle.hunt.specs.Hunting.{Stands, cell-of, port-behind}
@@ -53,7 +53,7 @@ pub record OneBlock (text m : List ℕ) (h : Held) (newer : ℕ) : Type 0 where
 abbrev pub RuleC : (text m : List ℕ) → Held → (m′ : List ℕ) → Held → (newer : ℕ) → Type 0
 RuleC text m h m′ h′ newer =
     (f : Frame ℕ) (X A p : Plan ℕ) → HeldIn text m h (plug f (X then block newer A p))
-    → cells (plug f (X then block newer A (block newer A p))) ≤ h .outer .0 → Rewritten text m′ h′ (plug f (X then block newer A (block newer A p)))
+    → cells (plug f (X then block newer A (block newer A p))) ≤ h .outer .0 → HeldAlike text m′ h′ (plug f (X then block newer A (block newer A p)))
 
 -- the memory holds a plan with a block behind the port `before`
 pub record DropBlock (m : List ℕ) (h : Held) (before newer : ℕ) : Type 0 where

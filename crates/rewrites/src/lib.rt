@@ -5,7 +5,7 @@ ghost use mathlib.Core.Path.{_≡_};
 ghost use Prim.Native.Nat.{ℕ, _≤_, _<_};
 ghost use Rattle.plan.specs.Frames.{Frame, plug};
 ghost use Rattle.plan.specs.Plan.{Plan};
-ghost use Rattle.memory.specs.Held.{Rewritten, held-numbers};
+ghost use Rattle.memory.specs.Held.{HeldAlike, held-numbers};
 ghost use Rattle.memory.specs.Memory.{start, close};
 ghost use Rattle.memory.specs.Model.{Aside, Lent};
 ghost use Rattle.rewrites.specs.Splices.{Spliced, cut, moved, put-in, released, unwrapped};
@@ -156,7 +156,7 @@ fn rule_d(memory: &mut [u32], held: Held, before: Port, newer: Cell) -> Held
 // Makes the rewrite of a ready operator: the memory then holds what the rule gives.
 pub fn rewrite(text: &[u8], memory: &mut [u32], held: Held, spot: Spot) -> Held
     requires { ⌜ Rewritable (now text) (now memory) held spot ⌝ }
-    ensures rewritten { λ r. ⌜ ((f : Frame ℕ) (q q′ : Plan ℕ) → Rewrites (now (text .entry)) (now (memory .entry)) held spot f q q′ → Rewritten (now (text .entry)) (now (memory .exit)) r (plug f q′)) ⌝ }
+    ensures rewritten { λ r. ⌜ ((f : Frame ℕ) (q q′ : Plan ℕ) → Rewrites (now (text .entry)) (now (memory .entry)) held spot f q q′ → HeldAlike (now (text .entry)) (now (memory .exit)) r (plug f q′)) ⌝ }
     ensures same_cells { λ r. ⌜ r .outer ≡ held .outer ⌝ }
     ensures aside { λ r. ⌜ Aside (held .outer .0) (now (memory .entry)) (now (memory .exit)) ⌝ }
 {

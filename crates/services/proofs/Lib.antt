@@ -1,2 +1,2 @@
 pub mod Acceptance
-pub mod Ended
+pub mod RunParts

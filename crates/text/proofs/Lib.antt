@@ -1,4 +1,4 @@
 pub mod Characters
-pub mod Held
+pub mod MayHold
 pub mod Table
 pub mod Values

@@ -29,9 +29,9 @@ use lending::fill_output;
 use lending::untouched;
 use libc::STDOUT_FILENO;
 use plan::Answer;
-use report::Outcome;
+use report::LineReport;
 use report::Report;
-use report::Run;
+use report::RunReport;
 
 // Room for all of the input, and more.
 const INPUT: usize = 2_097_152;
@@ -86,16 +86,16 @@ fn runs(
     memory: &mut [u32],
     output: &mut [u8],
     expected: &[u8],
-) -> Outcome {
+) -> LineReport {
     let quota = case.quota;
     let length = case.length;
     if QUOTA < quota {
-        return Outcome::Malformed;
+        return LineReport::Malformed;
     }
     fill_memory(memory);
     fill_output(output);
     let answer = services::run(text, quota as u32, memory, output);
-    Outcome::Ran(Run {
+    LineReport::Ran(RunReport {
         as_expected: is_expected(answer, case) && same(output, expected),
         memory_zero: all_zero(memory),
         rest_untouched: untouched(output, length),
@@ -109,13 +109,13 @@ fn call(
     memory: &mut [u32],
     output: &mut [u8],
     expected: &[u8],
-) -> Outcome {
+) -> LineReport {
     let kind = case.kind;
     match kind {
-        CHECK => Outcome::Checked(is_expected(services::check(text), case)),
-        TIDY => Outcome::Tidied(tidies(case, text, output, expected)),
+        CHECK => LineReport::Checked(is_expected(services::check(text), case)),
+        TIDY => LineReport::Tidied(tidies(case, text, output, expected)),
         RUN => runs(case, text, memory, output, expected),
-        _ => Outcome::Malformed,
+        _ => LineReport::Malformed,
     }
 }
 
@@ -127,12 +127,12 @@ fn compare(
     memory: &mut [u32],
     output: &mut [u8],
     expected: &mut [u8],
-) -> Outcome {
+) -> LineReport {
     fill_output(expected);
     let given = expand(line, case.next, text);
     let written = expand(line, given.next, expected);
     if written.next != line.len() {
-        return Outcome::Malformed;
+        return LineReport::Malformed;
     }
     let length = given.value;
     call(case, &text[0..length], memory, output, expected)
@@ -145,18 +145,18 @@ fn run_case(
     memory: &mut [u32],
     output: &mut [u8],
     expected: &mut [u8],
-) -> Outcome {
+) -> LineReport {
     let case = Case::read(line);
     let numbers = case.memory;
     let bytes = case.output;
     if memory.len() < numbers {
-        return Outcome::Malformed;
+        return LineReport::Malformed;
     }
     if output.len() < bytes {
-        return Outcome::Malformed;
+        return LineReport::Malformed;
     }
     if expected.len() < bytes {
-        return Outcome::Malformed;
+        return LineReport::Malformed;
     }
     compare(
         line,

@@ -7,16 +7,16 @@ use libc::STDOUT_FILENO;
 const POINTED_OUT: u64 = 10;
 
 // What came of a line; of a case that was run, whether all was as expected.
-pub enum Outcome {
+pub enum LineReport {
     Checked(bool),
     Tidied(bool),
-    Ran(Run),
+    Ran(RunReport),
     Malformed,
 }
 
 // Whether RUN answered and wrote what was expected, left every number of the memory 0, and left every byte of the output
 // past the text as it was.
-pub struct Run {
+pub struct RunReport {
     pub as_expected: bool,
     pub memory_zero: bool,
     pub rest_untouched: bool,
@@ -52,7 +52,7 @@ fn one_more_unless(as_it_should: bool, count: u64) -> u64 {
     if as_it_should { count } else { one_more(count) }
 }
 
-impl Run {
+impl RunReport {
     fn is_fault(self) -> bool {
         !(self.as_expected && self.memory_zero && self.rest_untouched)
     }
@@ -71,13 +71,13 @@ impl Run {
     }
 }
 
-impl Outcome {
+impl LineReport {
     fn is_fault(self) -> bool {
         match self {
-            Outcome::Checked(as_expected) => !as_expected,
-            Outcome::Tidied(as_expected) => !as_expected,
-            Outcome::Ran(run) => run.is_fault(),
-            Outcome::Malformed => true,
+            LineReport::Checked(as_expected) => !as_expected,
+            LineReport::Tidied(as_expected) => !as_expected,
+            LineReport::Ran(run) => run.is_fault(),
+            LineReport::Malformed => true,
         }
     }
 
@@ -85,10 +85,10 @@ impl Outcome {
         write_all(STDOUT_FILENO, b"line ");
         print_decimal(STDOUT_FILENO, line);
         match self {
-            Outcome::Malformed => {
+            LineReport::Malformed => {
                 write_all(STDOUT_FILENO, b" is malformed\n");
             }
-            Outcome::Ran(run) => run.point_out(),
+            LineReport::Ran(run) => run.point_out(),
             _ => {
                 write_all(STDOUT_FILENO, b" differs\n");
             }
@@ -141,7 +141,7 @@ impl RunTally {
         }
     }
 
-    fn after(self, run: Run) -> Self {
+    fn after(self, run: RunReport) -> Self {
         let cases = self.cases;
         Self {
             cases: cases.after(run.as_expected),
@@ -173,23 +173,23 @@ impl Report {
     }
 
     // The report with one line more.
-    pub fn after(self, outcome: Outcome) -> Self {
+    pub fn after(self, outcome: LineReport) -> Self {
         let lines = one_more(self.lines);
         let faults = outcome.count_fault(lines, self.faults);
         let mut check = self.check;
         let mut tidy = self.tidy;
         let mut run = self.run;
         match outcome {
-            Outcome::Checked(as_expected) => {
+            LineReport::Checked(as_expected) => {
                 check = check.after(as_expected);
             }
-            Outcome::Tidied(as_expected) => {
+            LineReport::Tidied(as_expected) => {
                 tidy = tidy.after(as_expected);
             }
-            Outcome::Ran(ran) => {
+            LineReport::Ran(ran) => {
                 run = run.after(ran);
             }
-            Outcome::Malformed => {}
+            LineReport::Malformed => {}
         }
         Self {
             lines,

@@ -1,15 +1,15 @@
--- `last_port`: the loop's invariant is `Ending`. The measure is how many ports are ahead.
+-- `last_port`: the loop's invariant is `LastSoFar`. The measure is how many ports are ahead.
 use borrow.Author.Needs.{needs}
 use lib.ListN.{length}
 use Rattle.memory.specs.Memory.{whole}
-use Rattle.blocks.proofs.Last.{Ending, last-small, last-low, last-first, last-next-low, last-less, last-on, last-end}
+use Rattle.blocks.proofs.LastPort.{LastSoFar, last-small, last-low, last-first, last-next-low, last-less, last-on, last-end}
 use Rattle.blocks.proofs.Ways.{ahead}
 use Rattle.blocks.proofs.last_port.Statement.{statement}
 use Rattle.blocks.proofs.last_port.Tie as tie
 
 abbrev Inv-loop : tie.InvT-loop
 Inv-loop memory outer first end port₀ next₀ port next =
-    Ending memory (outer .0) (first .0) (end .0) (port₀ .0) (next₀ .0) (port .0) (next .0)
+    LastSoFar memory (outer .0) (first .0) (end .0) (port₀ .0) (next₀ .0) (port .0) (next .0)
 
 abbrev μ-loop : tie.MeasureT-loop
 μ-loop memory outer first end port₀ next₀ port next =

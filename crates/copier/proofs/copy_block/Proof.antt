@@ -3,19 +3,20 @@
 use Prim.Native.Nat.{_*_}
 use mathlib.Core.Path.{refl, _∙_}
 use borrow.Author.Needs.{needs}
+use lib.ListN.{length}
 use Rattle.memory.specs.Model.{model}
 use Rattle.memory.proofs.Steps.{still-lent}
 use Rattle.memory.proofs.Whole.{aside-on}
-use Rattle.copier.proofs.Ahead.{steps}
-use Rattle.copier.proofs.Walk.{Prepared, Walk, block-small, block-start, copy-small, has-copy, lent-apart, port-low, prepared, tail-low, walk-aside, walk-end, walk-first, walk-less, walk-like, walk-on}
+use Rattle.memory.proofs.Along.{along}
+use Rattle.copier.proofs.CopyLoop.{Prepared, CopyLoop, block-small, block-start, copy-small, has-copy, lent-apart, port-low, prepared, tail-low, walk-aside, walk-end, walk-first, walk-less, walk-like, walk-on}
 use Rattle.copier.proofs.copy_block.Statement.{statement}
 use Rattle.copier.proofs.copy_block.Tie as tie
 
 abbrev Inv-loop : tie.InvT-loop
-Inv-loop text memory₀ outer copy build₀ end port₀ memory build port = Walk text memory₀ outer copy build₀ (end .0) (port₀ .0) memory build (port .0)
+Inv-loop text memory₀ outer copy build₀ end port₀ memory build port = CopyLoop text memory₀ outer copy build₀ (end .0) (port₀ .0) memory build (port .0)
 
 abbrev μ-loop : tie.MeasureT-loop
-μ-loop text memory₀ outer copy build₀ end port₀ memory build port = steps (model memory₀ build₀ .numbers) (end .0) (2 * outer .0) (port .0)
+μ-loop text memory₀ outer copy build₀ end port₀ memory build port = length (along (model memory₀ build₀ .numbers) (end .0) (2 * outer .0) (port .0))
 
 -- what stands in the memory before the loop
 abbrev apart : tie.After-link-of Inv-loop μ-loop → tie.After-begin-apart Inv-loop μ-loop

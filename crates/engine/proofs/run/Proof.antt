@@ -1,21 +1,21 @@
--- `run`: the loop's invariant is `Going`. The measure is what is left of the quota.
+-- `run`: the loop's invariant is `RunSoFar`. The measure is what is left of the quota.
 use Prim.Native.Nat.{_-_}
 use borrow.Author.Needs.{needs}
-use Rattle.engine.proofs.Looping.{Going, going-aside, going-first, going-less, going-more, going-on, going-runnable, going-stop}
+use Rattle.engine.proofs.Looping.{RunSoFar, so-far-aside, so-far-first, so-far-less, so-far-more, so-far-on, so-far-runnable, so-far-stop}
 use Rattle.engine.proofs.run.Statement.{statement}
 use Rattle.engine.proofs.run.Tie as tie
 
 abbrev Inv-loop : tie.InvT-loop
-Inv-loop text memory₀ size quota here₀ cells₀ steps₀ memory here cells steps = Going text memory₀ here₀ cells₀ quota memory here cells steps
+Inv-loop text memory₀ size quota here₀ cells₀ steps₀ memory here cells steps = RunSoFar text memory₀ here₀ cells₀ quota memory here cells steps
 
 abbrev μ-loop : tie.MeasureT-loop
 μ-loop text memory₀ size quota here₀ cells₀ steps₀ memory here cells steps = quota - steps
 
 loop-holds : tie.Need-loop-holds Inv-loop μ-loop
-loop-holds c = search going-first
+loop-holds c = search so-far-first
 
 step-requires : tie.Need-step-requires Inv-loop μ-loop
-step-requires c κs = search going-runnable
+step-requires c κs = search so-far-runnable
 
 enum-known-ending : tie.Need-enum-known-ending Inv-loop μ-loop
 enum-known-ending c = search needs
@@ -26,7 +26,7 @@ same-length c = search needs
 returns : tie.Need-returns Inv-loop μ-loop
 returns c =
     let t = c .before .before .before .before .before in
-    (going-stop (t .before .before .loop .inv) _ _ (t .step .ensures .0) (c .before .ending .given .1), (search needs, search going-aside))
+    (so-far-stop (t .before .before .loop .inv) _ _ (t .step .ensures .0) (c .before .ending .given .1), (search needs, search so-far-aside))
 
 enum-known-held : tie.Need-enum-known-held Inv-loop μ-loop
 enum-known-held c = search needs
@@ -34,15 +34,15 @@ enum-known-held c = search needs
 add-steps : tie.Need-add-steps Inv-loop μ-loop
 add-steps c =
     let l = c .before .before .before .before .before .before .before in
-    let more = going-more (l .loop .inv) _ _ (c .before .before .before .before .before .step .ensures .0) (c .before .held .given .1) in search needs
+    let more = so-far-more (l .loop .inv) _ _ (c .before .before .before .before .before .step .ensures .0) (c .before .held .given .1) in search needs
 
 loop-less : tie.Need-loop-less Inv-loop μ-loop
 loop-less c =
     let l = c .before .before .before .before .before .before .before in
-    going-less (l .loop .inv) _ _ (c .before .before .before .before .before .step .ensures .0) (c .before .held .given .1)
+    so-far-less (l .loop .inv) _ _ (c .before .before .before .before .before .step .ensures .0) (c .before .held .given .1)
 
 loop-again : tie.Need-loop-again Inv-loop μ-loop
-loop-again c = search going-on
+loop-again c = search so-far-on
 
 pub run-spec : {M : Type 1} → statement M
 run-spec =

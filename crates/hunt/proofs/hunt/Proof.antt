@@ -5,7 +5,7 @@ use borrow.Author.Needs.{needs}
 use lib.ListN.{length}
 use Rattle.memory.specs.Held.{held-numbers}
 use Rattle.blocks.proofs.Ways.{ahead}
-use Rattle.hunt.proofs.Walking.{Walking, outer-small, from-small, hunt-first, hunt-low, hunt-less, hunt-on, hunt-scannable, hunt-found, hunt-past, hunt-none}
+use Rattle.hunt.proofs.HuntWalk.{Walking, outer-small, from-small, hunt-first, hunt-low, hunt-less, hunt-on, hunt-scannable, hunt-found, hunt-past, hunt-none}
 use Rattle.hunt.proofs.hunt.Statement.{statement}
 use Rattle.hunt.proofs.hunt.Tie as tie
 

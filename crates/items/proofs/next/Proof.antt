@@ -3,7 +3,7 @@ use Prim.Native.Nat.{_-_}
 use borrow.Author.Needs.{needs}
 use lib.ListN.{length}
 use Rattle.items.proofs.Telling.{
-  Passing,
+  WalkSoFar,
   pass-bad,
   pass-blank,
   pass-close,
@@ -18,7 +18,7 @@ use Rattle.items.proofs.next.Statement.{statement}
 use Rattle.items.proofs.next.Tie as tie
 
 abbrev Inv-loop : tie.InvT-loop
-Inv-loop text at₀ at = Passing text at₀ at
+Inv-loop text at₀ at = WalkSoFar text at₀ at
 
 abbrev μ-loop : tie.MeasureT-loop
 μ-loop text at₀ at = length text - at

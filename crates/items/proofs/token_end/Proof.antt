@@ -2,7 +2,7 @@
 use Prim.Native.Nat.{_-_}
 use native.Mathlib.Omega.{arith}
 use lib.ListN.{length}
-use Rattle.items.proofs.Ends.{WithinToken, within-end, within-more, within-start}
+use Rattle.items.proofs.TokenEnd.{WithinToken, within-end, within-more, within-start}
 use Rattle.items.proofs.token_end.Statement.{statement}
 use Rattle.items.proofs.token_end.Tie as tie
 

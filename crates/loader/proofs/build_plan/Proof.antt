@@ -5,9 +5,9 @@ use mathlib.Core.List.{List}
 use borrow.Author.Needs.{needs}
 use lib.ListN.{length}
 use Rattle.items.specs.Walk.{Walked}
-use Rattle.items.specs.declared.Step.{Step}
+use Rattle.items.specs.declared.NextPiece.{NextPiece}
 use Rattle.memory.proofs.Whole.{aside-on}
-use Rattle.loader.proofs.Onward.{Onward, onward-aside, onward-end, onward-less, onward-on, onward-start, piece-ready, ready}
+use Rattle.loader.proofs.BuildLoop.{Onward, onward-aside, onward-end, onward-less, onward-on, onward-start, piece-ready, ready}
 use Rattle.loader.proofs.build_plan.Statement.{statement}
 use Rattle.loader.proofs.build_plan.Tie as tie
 
@@ -21,7 +21,7 @@ abbrev text : tie.At-loop Inv-loop μ-loop → List ℕ
 text l = l .before .before .before .before .before .before .before .args .text .now
 
 -- what the walk answered, by what the match found it to be
-walked : (n : tie.After-next Inv-loop μ-loop) {r : Step} → n .next .result ≡ r → Walked (text (n .before)) (n .before .loop .cursor .at) r (n .before .loop .inv .ahead .come)
+walked : (n : tie.After-next Inv-loop μ-loop) {r : NextPiece} → n .next .result ≡ r → Walked (text (n .before)) (n .before .loop .cursor .at) r (n .before .loop .inv .ahead .come)
 walked n e =
     let l = n .before in
     subst (λ r. Walked (text l) (l .loop .cursor .at) r (l .loop .inv .ahead .come)) e (n .next .ensures _ (l .loop .inv .ahead .shows))

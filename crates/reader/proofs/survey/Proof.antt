@@ -9,19 +9,19 @@ use Rattle.plan.specs.Reading.{place}
 use Rattle.plan.specs.declared.Refusal.the-variants.{Text}
 use Rattle.plan.specs.declared.TextFault.the-variants.{BadToken}
 use Rattle.reader.specs.declared.Surveyed.the-variants.{Refused}
-use Rattle.reader.proofs.Going.{Going, going-start, going-small, going-on, going-stop, going-end}
-use Rattle.reader.proofs.Inside.{Inside, inside-start, inside-further, inside-bad, inside-close}
+use Rattle.reader.proofs.SurveySoFar.{SurveySoFar, survey-start, survey-small, survey-on, survey-stop, survey-end}
+use Rattle.reader.proofs.TokenSoFar.{TokenSoFar, inside-start, inside-further, inside-bad, inside-close}
 use Rattle.reader.proofs.survey.Statement.{statement}
 use Rattle.reader.proofs.survey.Tie as tie
 
 abbrev Inv-loop : tie.InvT-loop
-Inv-loop text room count at end₀ end = Inside text room count at end
+Inv-loop text room count at end₀ end = TokenSoFar text room count at end
 
 abbrev μ-loop : tie.MeasureT-loop
 μ-loop text room count at end₀ end = length text - end
 
 abbrev Inv-items : tie.InvT-items
-Inv-items text room count₀ at₀ count at = Going text room count at
+Inv-items text room count₀ at₀ count at = SurveySoFar text room count at
 
 abbrev μ-items : tie.MeasureT-items
 μ-items text room count₀ at₀ count at = length text - at
@@ -31,14 +31,14 @@ new-requires c κs = search needs
 
 items-holds : tie.Need-items-holds Inv-loop μ-loop Inv-items μ-items
 items-holds c =
-    going-start _ _ _ (c .before .before .pre) refl refl refl
+    survey-start _ _ _ (c .before .before .pre) refl refl refl
 
 finish-requires : tie.Need-finish-requires Inv-loop μ-loop Inv-items μ-items
 finish-requires c κs = search needs
 
 returns : tie.Need-returns Inv-loop μ-loop Inv-items μ-items
 returns c =
-    c .finish .ensures ∙ going-end (c .before .before .items .inv) (c .before .if1 .taken)
+    c .finish .ensures ∙ survey-end (c .before .before .items .inv) (c .before .if1 .taken)
 
 shared-slice-read-read-byte :
     tie.Need-shared-slice-read-read-byte Inv-loop μ-loop Inv-items μ-items
@@ -47,7 +47,7 @@ shared-slice-read-read-byte c = search needs
 read-byte-requires : tie.Need-read-byte-requires Inv-loop μ-loop Inv-items μ-items
 read-byte-requires c κs =
     let g = c .before .before .items .inv in
-    (going-small g, omega (arith, g .within, g .short))
+    (survey-small g, omega (arith, g .within, g .short))
 
 enum-known-next : tie.Need-enum-known-next Inv-loop μ-loop Inv-items μ-items
 enum-known-next c = search needs
@@ -62,7 +62,7 @@ items-again : tie.Need-items-again Inv-loop μ-loop Inv-items μ-items
 items-again c =
     let r = c .before .before .before in
     let e = r .before .before in
-    going-on (e .before .items .inv) (e .if1 .left) _ (sym (c .before .next .given .1) ∙ r .read-byte .ensures)
+    survey-on (e .before .items .inv) (e .if1 .left) _ (sym (c .before .next .given .1) ∙ r .read-byte .ensures)
 
 enum-known-fault : tie.Need-enum-known-fault Inv-loop μ-loop Inv-items μ-items
 enum-known-fault c = search needs
@@ -129,7 +129,7 @@ cast-one-item c = search needs
 one-item-requires : tie.Need-one-item-requires Inv-loop μ-loop Inv-items μ-items
 one-item-requires c κs =
     let i = c .before .before .before .loop .inv in
-    (going-small (i .going), omega (arith, i .going .within, i .going .short), omega (arith, i .few, i .ahead))
+    (survey-small (i .survey), omega (arith, i .survey .within, i .survey .short), omega (arith, i .few, i .ahead))
 
 add-at-2 : tie.Need-add-at-2 Inv-loop μ-loop Inv-items μ-items
 add-at-2 c = search needs
@@ -146,7 +146,7 @@ returns-2 : tie.Need-returns-2 Inv-loop μ-loop Inv-items μ-items
 returns-2 c =
     let r = c .before .before .before in
     let e = r .before .before in
-    going-stop (e .before .items .inv) (e .if1 .left) _ (sym (c .before .fault .given .1) ∙ r .read-byte .ensures)
+    survey-stop (e .before .items .inv) (e .if1 .left) _ (sym (c .before .fault .given .1) ∙ r .read-byte .ensures)
 
 returns-3 : tie.Need-returns-3 Inv-loop μ-loop Inv-items μ-items
 returns-3 c =

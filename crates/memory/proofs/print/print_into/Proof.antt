@@ -3,7 +3,7 @@
 use borrow.Author.Needs.{needs}
 use lib.ListN.{length}
 use Rattle.memory.proofs.Putting.{Putting, put-first, put-fits, put-on, put-last, as-long}
-use Rattle.memory.proofs.Walking.{ahead, walk-lent, walk-below, walk-less, walk-in-text}
+use Rattle.memory.proofs.PrintWalk.{ahead, walk-lent, walk-below, walk-less, walk-in-text}
 use Rattle.memory.proofs.print.print_into.Statement.{statement}
 use Rattle.memory.proofs.print.print_into.Tie as tie
 

@@ -1,12 +1,12 @@
--- `printed_length`: the loop's invariant is a `Walk` that puts no byte, and each turn is its lemma `walk-on`. The measure is how
+-- `printed_length`: the loop's invariant is a `PrintWalk` that puts no byte, and each turn is its lemma `walk-on`. The measure is how
 -- many ports are ahead.
 use borrow.Author.Needs.{needs}
 use native.Mathlib.Omega.{arith}
 use lib.ListN.{length as size-of}
 use Rattle.memory.specs.Pieces.{printLimit}
-use Rattle.memory.proofs.Walking.{
+use Rattle.memory.proofs.PrintWalk.{
   ahead,
-  Walk,
+  PrintWalk,
   walk-first,
   walk-lent,
   walk-below,
@@ -19,7 +19,7 @@ use Rattle.memory.proofs.print.printed_length.Statement.{statement}
 use Rattle.memory.proofs.print.printed_length.Tie as tie
 
 abbrev Inv-loop : tie.InvT-loop
-Inv-loop text memory outer first end port₀ length₀ port length = Walk 0 printLimit text memory (outer .0) (first .0) (port .0) length
+Inv-loop text memory outer first end port₀ length₀ port length = PrintWalk 0 printLimit text memory (outer .0) (first .0) (port .0) length
 
 abbrev μ-loop : tie.MeasureT-loop
 μ-loop text memory outer first end port₀ length₀ port length = size-of (ahead memory (outer .0) (first .0) (port .0))

@@ -1,6 +1,6 @@
 -- `print_plan`: 18, or the printed text in front of an output that is otherwise as it was.
 use borrow.Author.Needs.{needs}
-use Rattle.services.proofs.Ended.{prints-at-most, prints-in, writes-all, writes-short}
+use Rattle.services.proofs.RunParts.{prints-at-most, prints-in, writes-all, writes-short}
 use Rattle.services.proofs.running.print_plan.Statement.{statement}
 use Rattle.services.proofs.running.print_plan.Tie as tie
 

@@ -1,6 +1,6 @@
 -- `run`: all but the clearing, then the clearing.
 use borrow.Author.Needs.{needs}
-use Rattle.services.proofs.Ended.{ran-call}
+use Rattle.services.proofs.RunParts.{ran-call}
 use Rattle.services.proofs.running.run.Statement.{statement}
 use Rattle.services.proofs.running.run.Tie as tie
 

@@ -1,7 +1,7 @@
 -- `run_accepted`: build, run, print.
 use mathlib.Core.Path.{_∙_}
 use borrow.Author.Needs.{needs}
-use Rattle.services.proofs.Ended.{built-runnable, end-printable, end-written}
+use Rattle.services.proofs.RunParts.{built-runnable, end-printable, end-written}
 use Rattle.services.proofs.running.run_accepted.Statement.{statement}
 use Rattle.services.proofs.running.run_accepted.Tie as tie
 

@@ -1,6 +1,6 @@
 -- `run_uncleared`: a refusal, or the run of the accepted text.
 use borrow.Author.Needs.{needs}
-use Rattle.services.proofs.Ended.{acceptable-cell, lent-few, writes-refusal, writes-run}
+use Rattle.services.proofs.RunParts.{acceptable-cell, lent-few, writes-refusal, writes-run}
 use Rattle.services.proofs.running.run_uncleared.Statement.{statement}
 use Rattle.services.proofs.running.run_uncleared.Tie as tie
 

@@ -35,7 +35,7 @@ use Rattle.demands.specs.Words.{
 }
 use Rattle.demands.proofs.Cases.{
   CheckCase,
-  Ended,
+  EndedRun,
   TidyCase,
   bad-text,
   check-case,
@@ -52,7 +52,7 @@ use Rattle.demands.proofs.Numbers.{refusal-over, same-ending}
 
 module _ {text : List ℕ} {quota : ℕ} {memory out : List ℕ} {r : Answer} {memory′ out′ : List ℕ}
     (call : Runs text quota memory out r memory′ out′) (unrefused : Unrefused r) where
-  run : Ended (lent memory) quota text out r out′
+  run : EndedRun (lent memory) quota text out r out′
   run = run-ended call unrefused
 
   back : Reads (lent memory) (saved r out′) (run .result)

@@ -15,14 +15,14 @@ use Rattle.memory.specs.Memory.{start, close, datum, link, block-kind, ports, L
 use Rattle.memory.specs.Model.{Lent}
 use Rattle.memory.specs.declared.Held.{Held}
 use Rattle.memory.proofs.Lists.{linked-split}
-use Rattle.blocks.proofs.Ways.{ahead, Way, Turn, turn}
+use Rattle.blocks.proofs.Ways.{ahead, Way, WayAhead, turn}
 use Rattle.hunt.specs.Hunting.{SequenceAt, Scannable, Scanned, Finds, Huntable, cell-of, opens}
 use Rattle.hunt.specs.declared.Spot.{Spot}
 use Rattle.hunt.specs.declared.Hunted.{Hunted}
 use Rattle.hunt.specs.declared.Hunted.the-variants.{Nothing, Ready}
-use Rattle.hunt.proofs.Along.{way-whole, way-at}
+use Rattle.hunt.proofs.WaysThrough.{way-whole, way-at}
 use Rattle.hunt.proofs.Frames.{left, chain-plug, inside-plug}
-use Rattle.hunt.proofs.One.{one-held}
+use Rattle.hunt.proofs.OnePlan.{one-held}
 use Rattle.hunt.proofs.Standing.{Standing, onward, Opening, at-opening, passed, at-end, stand-opening, stand-passing, pass-opening}
 use Rattle.hunt.proofs.Tests.{outermost-datum}
 
@@ -73,7 +73,7 @@ module _ {text m : List ℕ} {h : Held} {from : ℕ} (can : Huntable text m h fr
       }
 
 module _ {text m : List ℕ} {h : Held} {stop port : ℕ} (k : Walking text m h stop port) (more : port ≢ stop) where
-  here : Turn (held-numbers m h) (suc (h .outer .0)) stop port
+  here : WayAhead (held-numbers m h) (suc (h .outer .0)) stop port
   here = turn (k .way) more
 
   pub hunt-low : port ≤ start (h .outer .0)

@@ -10,18 +10,18 @@ use Rattle.memory.specs.Memory.{start, close, ports, Says, Absent}
 use Rattle.memory.proofs.Lists.{absent-split}
 
 -- the run us stands somewhere in the list
-record Run (us l : List ℕ) : Type 0 where
+record Stretch (us l : List ℕ) : Type 0 where
   before : List ℕ
   behind : List ℕ
   parts : l ≡ before ++ (us ++ behind)
 
-run-behind : {us l : List ℕ} (zs : List ℕ) → Run us l → Run us (zs ++ l)
+run-behind : {us l : List ℕ} (zs : List ℕ) → Stretch us l → Stretch us (zs ++ l)
 run-behind zs r = record { before = zs ++ r .before; behind = r .behind; parts = rw (r .parts, append-assoc) }
 
-run-before : {us l : List ℕ} (zs : List ℕ) → Run us l → Run us (l ++ zs)
+run-before : {us l : List ℕ} (zs : List ℕ) → Stretch us l → Stretch us (l ++ zs)
 run-before zs r = record { before = r .before; behind = r .behind ++ zs; parts = rw (r .parts) (simp append-assoc) }
 
-block-run : (c : ℕ) (b t : Plan ℕ) → BlockIn c b t → Run (start c ∷ (ports b ++ close c ∷ [])) (ports t) × Run (c ∷ labels b) (labels t)
+block-run : (c : ℕ) (b t : Plan ℕ) → BlockIn c b t → Stretch (start c ∷ (ports b ++ close c ∷ [])) (ports t) × Stretch (c ∷ labels b) (labels t)
 unfolding ports labels
 block-run c b end h = absurd h
 block-run c b (operator d o p) h =

@@ -12,21 +12,22 @@ use Rattle.memory.proofs.Lists.{below-split, below-absent, absent-split, distin
 use Rattle.memory.proofs.Ports.{close-absent, ports-distinct}
 use Rattle.memory.proofs.Ports.{below-ports}
 use Rattle.blocks.proofs.Starts.{way-through}
-use Rattle.blocks.proofs.Ways.{ahead, Leads, leads-linked, Way, way-from}
+use Rattle.memory.proofs.Along.{LeadsAlong, leads-linked}
+use Rattle.blocks.proofs.Ways.{ahead, Way, way-from}
 use Rattle.hunt.specs.Hunting.{SequenceAt}
 
 pub way-sequence : {text : List ℕ} {n : ℕ} {w : List ℕ} {s : ℕ} {q : Plan ℕ} → SequenceAt text n w s q
     → Way w n (close s) (link w (start s)) (ports q)
 way-sequence {n} {w} {s} {q} h =
     record {
-      leads = leads-linked w (close s) (start s) (ports q) (h .chain);
+      leads = leads-linked w (close s) (start s) (ports q) [] (h .chain);
       once = (close-absent s q (h .distinct .0), ports-distinct q (h .distinct .1));
       below = below-ports n q (h .below);
     }
 
 -- past some ports at once
 
-leads-skip : (w : List ℕ) (stop port y : ℕ) (xs ys : List ℕ) → Leads w stop port (xs ++ y ∷ ys) → Leads w stop (link w y) ys
+leads-skip : (w : List ℕ) (stop port y : ℕ) (xs ys : List ℕ) → LeadsAlong w stop port (xs ++ y ∷ ys) → LeadsAlong w stop (link w y) ys
 leads-skip w stop port y [] ys h = h .1
 leads-skip w stop port y (x ∷ xs) ys h = leads-skip w stop (link w x) y xs ys (h .1)
 

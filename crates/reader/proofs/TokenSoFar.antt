@@ -30,11 +30,11 @@ use Rattle.reader.specs.Counting.{closed, one-item, stepped, in-token, s
 use Rattle.reader.specs.declared.Count.{Count}
 use Rattle.reader.specs.declared.InToken.{InToken}
 use Rattle.reader.specs.declared.InToken.the-variants.{Further, Close, Bad}
-use Rattle.reader.specs.declared.Step.the-variants.{On, Token, Stop}
+use Rattle.reader.specs.declared.ByteStep.the-variants.{On, Token, Stop}
 use Rattle.reader.specs.declared.Surveyed.the-variants.{Refused}
-use Rattle.reader.proofs.Going.{Going, item-more, refused-here, token-is-not-on, token-is-not-stop}
-use Rattle.reader.proofs.Scanned.{
-  Scanned,
+use Rattle.reader.proofs.SurveySoFar.{SurveySoFar, item-more, refused-here, token-is-not-on, token-is-not-stop}
+use Rattle.reader.proofs.Taken.{
+  Taken,
   start,
   scanned-step,
   scanned-allowed,
@@ -45,21 +45,21 @@ use Rattle.reader.proofs.Scanned.{
 }
 
 -- what an answer says of the next character
-data Said (limit taken : ℕ) (x : Character) : InToken → Type 0 where
-  cut : x ≡ Malformed → Said limit taken x Bad
-  empty : {w : ℕ} → x ≡ Whole close-brace w → taken ≡ 0 → Said limit taken x Bad
-  ends : {w : ℕ} → x ≡ Whole close-brace w → taken ≢ 0 → Said limit taken x Close
-  long : {v w : ℕ} → x ≡ Whole v w → may-hold v ≡ true → limit < taken + w + 2 → Said limit taken x Bad
-  forbidden : {v w : ℕ} → x ≡ Whole v w → v ≢ close-brace → may-hold v ≡ false → Said limit taken x Bad
-  further : {v w : ℕ} → x ≡ Whole v w → may-hold v ≡ true → taken + w + 2 ≤ limit → Said limit taken x (Further w)
+data NextSays (limit taken : ℕ) (x : Character) : InToken → Type 0 where
+  cut : x ≡ Malformed → NextSays limit taken x Bad
+  empty : {w : ℕ} → x ≡ Whole close-brace w → taken ≡ 0 → NextSays limit taken x Bad
+  ends : {w : ℕ} → x ≡ Whole close-brace w → taken ≢ 0 → NextSays limit taken x Close
+  long : {v w : ℕ} → x ≡ Whole v w → may-hold v ≡ true → limit < taken + w + 2 → NextSays limit taken x Bad
+  forbidden : {v w : ℕ} → x ≡ Whole v w → v ≢ close-brace → may-hold v ≡ false → NextSays limit taken x Bad
+  further : {v w : ℕ} → x ≡ Whole v w → may-hold v ≡ true → taken + w + 2 ≤ limit → NextSays limit taken x (Further w)
 
-said : (limit taken : ℕ) (x : Character) → Said limit taken x (in-token limit taken x)
+said : (limit taken : ℕ) (x : Character) → NextSays limit taken x (in-token limit taken x)
 unfolding in-token
 said limit taken Malformed = cut refl
 said limit taken (Whole v w) = go (eqb v close-brace) refl (eqb taken 0) refl (ltb limit (taken + w + 2)) refl (may-hold v) refl
   where
     go : (a : Bool) → eqb v close-brace ≡ a → (b : Bool) → eqb taken 0 ≡ b → (c : Bool) → ltb limit (taken + w + 2) ≡ c → (d : Bool) → may-hold v ≡ d
-        → Said limit taken (Whole v w) (cond a (cond b Bad Close) (cond c Bad (cond d (Further w) Bad)))
+        → NextSays limit taken (Whole v w) (cond a (cond b Bad Close) (cond c Bad (cond d (Further w) Bad)))
     go true a true b c c′ d d′ = empty (ap (λ k. Whole k w) (eqb-true v close-brace a)) (eqb-true taken 0 b)
     go true a false b c c′ d d′ = ends (ap (λ k. Whole k w) (eqb-true v close-brace a)) (eqb-false taken 0 b)
     go false a b b′ true c true d = long refl d (ltb-true limit (taken + w + 2) c)
@@ -84,13 +84,13 @@ brace-first (b ∷ bs) e = go (ltb b 128) refl e
 abbrev pub part : List ℕ → (at end : ℕ) → List ℕ
 part text at end = take (end - at - 1) (drop (suc at) text)
 
-pub record Inside (text : List ℕ) (room : ℕ) (n : Count) (at end : ℕ) : Type 0 where
-  pub going : Going text room n at
+pub record TokenSoFar (text : List ℕ) (room : ℕ) (n : Count) (at end : ℕ) : Type 0 where
+  pub survey : SurveySoFar text room n at
   pub starts : at < length text
   pub brace : class (getD text at 0) ≡ BRACE
   pub ahead : at < end
   pub within : end ≤ length text
-  pub scanned : Scanned (part text at end)
+  pub scanned : Taken (part text at end)
   pub few : end < at + tokenLimit
 
 token-by-class : (n : Count) (k : Class) (at room : ℕ) → stepped n k at room ≡ Token → k ≡ BRACE
@@ -106,12 +106,12 @@ token-by-class n BRACE at room e = refl
 token-by-class n BLANK at room e = token-is-not-on (sym e)
 token-by-class n BAD at room e = token-is-not-stop (sym e)
 
-pub inside-start : {text : List ℕ} {room at : ℕ} {n : Count} → Going text room n at → at < length text
-    → Token ≡ stepped n (class (getD text at 0)) at room → Inside text room n at (at + 1)
+pub inside-start : {text : List ℕ} {room at : ℕ} {n : Count} → SurveySoFar text room n at → at < length text
+    → Token ≡ stepped n (class (getD text at 0)) at room → TokenSoFar text room n at (at + 1)
 inside-start {text} {room} {at} {n} g h e =
     let nothing-yet : at + 1 - at - 1 ≡ 0 = omega arith in
     record {
-      going = g;
+      survey = g;
       starts = h;
       brace = token-by-class n (class (getD text at 0)) at room (sym e);
       ahead = omega arith;
@@ -120,7 +120,7 @@ inside-start {text} {room} {at} {n} g h e =
       few = omega arith;
     }
 
-module _ {text : List ℕ} {room at end : ℕ} {n : Count} (i : Inside text room n at end) where
+module _ {text : List ℕ} {room at end : ℕ} {n : Count} (i : TokenSoFar text room n at end) where
   -- what the `{` stands before
   bytes-after : drop (suc at) text ≡ part text at end ++ drop end text
   bytes-after =
@@ -139,7 +139,7 @@ module _ {text : List ℕ} {room at end : ℕ} {n : Count} (i : Inside text room
   taken = length-take-le (end - at - 1) (drop (suc at) text) (omega (arith, length-drop (suc at) text, i .ahead, i .within))
 
   no-token : token-text tokenLimit (part text at end ++ drop end text) ≡ none → Refused (Text (BadToken (place at))) ≡ surveyed (read tokenLimit room text)
-  no-token e = refused-here (i .going) (i .starts) (bad-token (i .brace) (ap (token-text tokenLimit) bytes-after ∙ e))
+  no-token e = refused-here (i .survey) (i .starts) (bad-token (i .brace) (ap (token-text tokenLimit) bytes-after ∙ e))
 
   -- the next character is a `}`
   brace-next : {w : ℕ} → character (drop end text) ≡ Whole close-brace w → (end < length text) × (drop end text ≡ close-brace ∷ drop (suc end) text)
@@ -149,7 +149,7 @@ module _ {text : List ℕ} {room at end : ℕ} {n : Count} (i : Inside text room
       let cons = drop-cons text end 0 inside in
       (inside, cons ∙ ap (_∷ drop (suc end) text) (head-eq-of-cons-eq (sym cons ∙ first .1)))
 
-  bad : (a : InToken) → Said tokenLimit (end - at - 1) (character (drop end text)) a → a ≡ Bad
+  bad : (a : InToken) → NextSays tokenLimit (end - at - 1) (character (drop end text)) a → a ≡ Bad
       → token-text tokenLimit (part text at end ++ drop end text) ≡ none
   bad a (cut x) e = token-malformed tokenLimit (part text at end) (drop end text) (i .scanned) x
   bad a (empty x none-taken) e =
@@ -163,8 +163,8 @@ module _ {text : List ℕ} {room at end : ℕ} {n : Count} (i : Inside text room
   pub inside-bad : Bad ≡ in-token tokenLimit (end - at - 1) (character (drop end text)) → Refused (Text (BadToken (place at))) ≡ surveyed (read tokenLimit room text)
   inside-bad e = no-token (bad _ (said tokenLimit (end - at - 1) (character (drop end text))) (sym e))
 
-  on : (w : ℕ) (a : InToken) → Said tokenLimit (end - at - 1) (character (drop end text)) a → a ≡ Further w
-      → (1 ≤ w) × Inside text room n at (end + w)
+  on : (w : ℕ) (a : InToken) → NextSays tokenLimit (end - at - 1) (character (drop end text)) a → a ≡ Further w
+      → (1 ≤ w) × TokenSoFar text room n at (end + w)
   on w a (cut x) e = absurd (let z : _≡_ {A = ℕ} 0 1 = cc in omega arith)
   on w a (empty x none-taken) e = absurd (let z : _≡_ {A = ℕ} 0 1 = cc in omega arith)
   on w a (ends x some-taken) e = absurd (let z : _≡_ {A = ℕ} 0 1 = cc in omega arith)
@@ -175,22 +175,22 @@ module _ {text : List ℕ} {room at end : ℕ} {n : Count} (i : Inside text room
       let wide = character-width (drop end text) x in (
         omega (arith, wide .0),
         record {
-          going = i .going;
+          survey = i .survey;
           starts = i .starts;
           brace = i .brace;
           ahead = omega (arith, i .ahead);
           within = omega (arith, wide .1, length-drop end text, i .within);
-          scanned = subst (λ k. Scanned (part text at (end + k))) same
-              (subst Scanned (sym (longer-part w′)) (scanned-step (part text at end) (drop end text) (i .scanned) x fine));
+          scanned = subst (λ k. Taken (part text at (end + k))) same
+              (subst Taken (sym (longer-part w′)) (scanned-step (part text at end) (drop end text) (i .scanned) x fine));
           few = omega (arith, few, i .ahead);
         },
       )
 
   pub inside-further : (w : ℕ) → Further w ≡ in-token tokenLimit (end - at - 1) (character (drop end text))
-      → (1 ≤ w) × Inside text room n at (end + w)
+      → (1 ≤ w) × TokenSoFar text room n at (end + w)
   inside-further w e = on w _ (said tokenLimit (end - at - 1) (character (drop end text))) (sym e)
 
-  closing : (a : InToken) → Said tokenLimit (end - at - 1) (character (drop end text)) a → a ≡ Close
+  closing : (a : InToken) → NextSays tokenLimit (end - at - 1) (character (drop end text)) a → a ≡ Close
       → (end < length text) × (drop end text ≡ close-brace ∷ drop (suc end) text) × (1 ≤ end - at - 1)
   closing a (cut x) e = absurd (let z : _≡_ {A = ℕ} 0 1 = cc in omega arith)
   closing a (empty x none-taken) e = absurd (let z : _≡_ {A = ℕ} 0 1 = cc in omega arith)
@@ -223,18 +223,18 @@ module _ {text : List ℕ} {room at end : ℕ} {n : Count} (i : Inside text room
       ))
 
   whole-token : end < length text → drop end text ≡ close-brace ∷ drop (suc end) text → allowed tokenLimit (part text at end) ≡ true
-      → Going text room (one-item n at room (end + 1 - at)) (end + 1)
+      → SurveySoFar text room (one-item n at room (end + 1 - at)) (end + 1)
   unfolding without-blanks
   whole-token inside e fine =
-      item-more (i .going) piece (end + 1) (joined e) (omega (arith, i .ahead)) (omega arith) (n .depth) (end + 1 - at)
+      item-more (i .survey) piece (end + 1) (joined e) (omega (arith, i .ahead)) (omega arith) (n .depth) (end + 1 - at)
       (a-token (part text at end) (i .brace) fine nothing)
       (ap length (token-kept (getD text at 0) (part text at end) [] (rw (i .brace) at (class-byte (getD text at 0))) (allowed-no-brace tokenLimit (part text at end) fine))
       ∙ omega (arith, length-append (part text at end) (close-brace ∷ []), taken, i .ahead))
       (rw (i .brace) tt)
 
   pub inside-close : (m : Count) → Close ≡ in-token tokenLimit (end - at - 1) (character (drop end text)) → m ≡ one-item n at room (end + 1 - at)
-      → (end < length text) × Going text room m (end + 1)
+      → (end < length text) × SurveySoFar text room m (end + 1)
   inside-close m e h =
       let c = closing _ (said tokenLimit (end - at - 1) (character (drop end text))) (sym e) in
       let fine = scanned-allowed tokenLimit (part text at end) (i .scanned) (omega (arith, taken, c .2)) (omega (arith, taken, i .few, i .ahead)) in
-      (c .0, subst (λ x. Going text room x (end + 1)) (sym h) (whole-token (c .0) (c .1) fine))
+      (c .0, subst (λ x. SurveySoFar text room x (end + 1)) (sym h) (whole-token (c .0) (c .1) fine))

@@ -23,9 +23,9 @@ use Rattle.plan.proofs.Tokens.{NoBrace, allowed-parts, allowed-no-brace, token-
 use Rattle.plan.proofs.Utf8.{character-frame, character-width}
 
 -- whole characters that a token may hold
-pub data Scanned : List ℕ → Type 0 where
-  start : Scanned []
-  further : (u c : List ℕ) {x : ℕ} → Scanned u → character c ≡ Whole x (length c) → may-hold x ≡ true → Scanned (u ++ c)
+pub data Taken : List ℕ → Type 0 where
+  start : Taken []
+  further : (u c : List ℕ) {x : ℕ} → Taken u → character c ≡ Whole x (length c) → may-hold x ≡ true → Taken (u ++ c)
 
 own-length : (bs : List ℕ) {x w : ℕ} → character bs ≡ Whole x w → length (take w bs) ≡ w
 own-length bs {x} {w} e = length-take-le w bs (character-width bs e .1)
@@ -41,7 +41,7 @@ extended bs rest {x} {w} e =
     rw (← append-assoc, take-append-drop, own-length bs e) at (own-bytes bs (drop w bs ++ rest) e)
 
 pub scanned-step :
-    (u v : List ℕ) {x w : ℕ} → Scanned u → character v ≡ Whole x w → may-hold x ≡ true → Scanned (u ++ take w v)
+    (u v : List ℕ) {x w : ℕ} → Taken u → character v ≡ Whole x w → may-hold x ≡ true → Taken (u ++ take w v)
 scanned-step u v {x} {w} s e h = further u (take w v) s (rw append-nil at (own-bytes v [] e)) h
 
 -- what has been taken does not matter for what is permitted after it: the rest of a character, a character, any number
@@ -57,17 +57,17 @@ unfolding all-permitted permits
 one-passed [] rest e h = absurd (omega (arith, character-width [] e))
 one-passed (b ∷ c) rest e h = rw (extended (b ∷ c) rest e, h, sub-one) (passed-over c rest)
 
-scanned-passed : (u rest : List ℕ) → Scanned u → all-permitted 0 (u ++ rest) ≡ all-permitted 0 rest
+scanned-passed : (u rest : List ℕ) → Taken u → all-permitted 0 (u ++ rest) ≡ all-permitted 0 rest
 scanned-passed _ rest start = refl
 scanned-passed _ rest (further u c s e h) = rw append-assoc (scanned-passed u (c ++ rest) s ∙ one-passed c rest e h)
 
 pub scanned-allowed :
-    (limit : ℕ) (u : List ℕ) → Scanned u → 1 ≤ length u → length u + 2 ≤ limit → allowed limit u ≡ true
+    (limit : ℕ) (u : List ℕ) → Taken u → 1 ≤ length u → length u + 2 ≤ limit → allowed limit u ≡ true
 unfolding allowed all-permitted
 scanned-allowed limit u s some-bytes fits =
     rw (le-leb _ _ some-bytes, le-leb _ _ fits) (rw append-nil at (scanned-passed u [] s))
 
-scanned-no-brace : (u : List ℕ) → Scanned u → NoBrace u
+scanned-no-brace : (u : List ℕ) → Taken u → NoBrace u
 scanned-no-brace [] s = tt
 scanned-no-brace (b ∷ u) s =
     let limit = length (b ∷ u) + 2 in
@@ -84,30 +84,30 @@ brace-ahead (b ∷ u) v (a ∷ t) rest h e =
     (r .0, cc, r .2)
 
 -- which character v begins with, if it begins with permitted bytes t and a `}` after them
-data First (t v : List ℕ) : Type 0 where
-  brace : character v ≡ Whole close-brace 1 → First t v
-  held : {x w : ℕ} → character v ≡ Whole x w → may-hold x ≡ true → w ≤ length t → First t v
+data FirstCharacter (t v : List ℕ) : Type 0 where
+  brace : character v ≡ Whole close-brace 1 → FirstCharacter t v
+  held : {x w : ℕ} → character v ≡ Whole x w → may-hold x ≡ true → w ≤ length t → FirstCharacter t v
 
-first-ahead : (t rest : List ℕ) → all-permitted 0 t ≡ true → First t (t ++ close-brace ∷ rest)
+first-ahead : (t rest : List ℕ) → all-permitted 0 t ≡ true → FirstCharacter t (t ++ close-brace ∷ rest)
 unfolding all-permitted permits character
 first-ahead [] rest e = brace refl
 first-ahead (b ∷ bs) rest e = go (character (b ∷ bs)) refl e
   where
     go :
         (c : Character) → character (b ∷ bs) ≡ c → permits c (λ width. all-permitted width bs) ≡ true →
-        First (b ∷ bs) (b ∷ bs ++ close-brace ∷ rest)
+        FirstCharacter (b ∷ bs) (b ∷ bs ++ close-brace ∷ rest)
     go Malformed is e = false-is-not-true e
     go (Whole x w) is e =
         held (extended (b ∷ bs) (close-brace ∷ rest) is) (and-true _ _ e .0) (character-width (b ∷ bs) is .1)
 
 -- there is no token where neither a `}` nor a character that it may hold, within the limit, is ahead
 no-token :
-    (limit : ℕ) (u v : List ℕ) → Scanned u → (character v ≡ Whole close-brace 1 → ⊥) →
+    (limit : ℕ) (u v : List ℕ) → Taken u → (character v ≡ Whole close-brace 1 → ⊥) →
     ((x w : ℕ) → character v ≡ Whole x w → may-hold x ≡ true → length u + w + 2 ≤ limit → ⊥) →
     token-text limit (u ++ v) ≡ none
 no-token limit u v s no-brace no-other = go (token-text limit (u ++ v)) (token-text-finds limit (u ++ v))
   where
-    from-first : (t : List ℕ) → length u + length t + 2 ≤ limit → First t v → ⊥
+    from-first : (t : List ℕ) → length u + length t + 2 ≤ limit → FirstCharacter t v → ⊥
     from-first t fits (brace is) = no-brace is
     from-first t fits (held {x} {w} is h within) = no-other x w is h (omega arith)
 
@@ -118,22 +118,22 @@ no-token limit u v s no-brace no-other = go (token-text limit (u ++ v)) (token-t
         let parts = allowed-parts limit t (f .fine) in
         let fine : all-permitted 0 t′ ≡ true = sym (scanned-passed u t′ s) ∙ (rw t-is at (parts .2)) in
         let fits : length u + length t′ + 2 ≤ limit = omega (arith, length-append u t′, ap length t-is) in
-        absurd (from-first t′ fits (subst (First t′) (sym v-is) (first-ahead t′ (f .rest) fine)))
+        absurd (from-first t′ fits (subst (FirstCharacter t′) (sym v-is) (first-ahead t′ (f .rest) fine)))
 
 module _ (limit : ℕ) (u v : List ℕ) where
   -- the bytes ahead begin no character; there may be none
-  pub token-malformed : Scanned u → character v ≡ Malformed → token-text limit (u ++ v) ≡ none
+  pub token-malformed : Taken u → character v ≡ Malformed → token-text limit (u ++ v) ≡ none
   token-malformed s is =
       no-token limit u v s (λ brace-is. false-is-not-true (cc)) (λ y k held-is h fits. false-is-not-true (cc))
 
   pub token-forbidden :
-      {x w : ℕ} → Scanned u → character v ≡ Whole x w → may-hold x ≡ false → x ≢ close-brace →
+      {x w : ℕ} → Taken u → character v ≡ Whole x w → may-hold x ≡ false → x ≢ close-brace →
       token-text limit (u ++ v) ≡ none
   token-forbidden s is forbidden no-brace =
       no-token limit u v s (λ brace-is. no-brace (cc)) (λ y k held-is h fits. false-is-not-true (cc))
 
   pub token-long :
-      {x w : ℕ} → Scanned u → character v ≡ Whole x w → may-hold x ≡ true → limit < length u + w + 2 →
+      {x w : ℕ} → Taken u → character v ≡ Whole x w → may-hold x ≡ true → limit < length u + w + 2 →
       token-text limit (u ++ v) ≡ none
   unfolding may-hold
   token-long {x} {w} s is permitted long =

@@ -12,10 +12,10 @@ use Rattle.memory.specs.Memory.{start, close, link, ports, last-of, whole}
 use Rattle.memory.specs.Model.{Lent}
 use Rattle.blocks.specs.Blocks.{Alone, Leaves}
 use Rattle.blocks.proofs.Starts.{way-inside}
-use Rattle.blocks.proofs.Ways.{ahead, ahead-end, way-ahead, way-from, Way, Turn, turn}
+use Rattle.blocks.proofs.Ways.{ahead, ahead-end, way-ahead, way-from, Way, WayAhead, turn}
 
 -- `from` is where the walk began
-pub record Ending (m : List ℕ) (n first stop from next₀ port next : ℕ) : Type 0 where
+pub record LastSoFar (m : List ℕ) (n first stop from next₀ port next : ℕ) : Type 0 where
   pub lent : Lent n m
   pub low : port ≤ start n
   pub way : Way (whole n m first) n stop next (ahead (whole n m first) n stop next)
@@ -28,12 +28,12 @@ module _ {n : ℕ} {m : List ℕ} {first c : ℕ} (h : Leaves n m first c) where
   pub last-low : (port : ℕ) → port ≡ start c → port ≤ start n
   last-low port e = omega (arith, h .alone .below .0)
 
-  pub last-first : (stop port next : ℕ) → stop ≡ close c → port ≡ start c → next ≡ link (whole n m first) port → Ending m n first stop port next port next
+  pub last-first : (stop port next : ℕ) → stop ≡ close c → port ≡ start c → next ≡ link (whole n m first) port → LastSoFar m n first stop port next port next
   last-first stop port next e s l =
       rw (e, l, s) record { lent = h .lent; low = omega (arith, h .alone .below .0); way = way-from (way-inside (h .alone)); last = refl }
 
-module _ {m : List ℕ} {n first stop from next₀ port next : ℕ} (h : Ending m n first stop from next₀ port next) (more : next ≢ stop) where
-  here : Turn (whole n m first) n stop next
+module _ {m : List ℕ} {n first stop from next₀ port next : ℕ} (h : LastSoFar m n first stop from next₀ port next) (more : next ≢ stop) where
+  here : WayAhead (whole n m first) n stop next
   here = turn (h .way) more
 
   pub last-next-low : next ≤ start n
@@ -43,12 +43,12 @@ module _ {m : List ℕ} {n first stop from next₀ port next : ℕ} (h : Ending 
     pub last-less : length (ahead (whole n m first) n stop onward) < length (ahead (whole n m first) n stop next)
     last-less = rw e (omega (arith, ap length (here .on)))
 
-    pub last-on : Ending m n first stop from next₀ next onward
+    pub last-on : LastSoFar m n first stop from next₀ next onward
     last-on =
         rw e record { lent = h .lent; low = last-next-low; way = here .way; last = sym (ap (last-of port) (here .on)) ∙ h .last }
 
 -- at the stop nothing is ahead, of every block that the cell begins
-pub last-end : {m : List ℕ} {n first stop from next₀ port next : ℕ} → Ending m n first stop from next₀ port next → next ≡ stop
+pub last-end : {m : List ℕ} {n first stop from next₀ port next : ℕ} → LastSoFar m n first stop from next₀ port next → next ≡ stop
     → (c : ℕ) → stop ≡ close c → from ≡ start c → next₀ ≡ link (whole n m first) from
     → (b : Plan ℕ) → Alone n (whole n m first) c b → port ≡ last-of (start c) (ports b)
 last-end {m} {n} {first} {stop} {from} {next₀} {port} {next} h e c s f l b alone =

@@ -12,9 +12,9 @@ use Rattle.plan.specs.Reading.{PLAN, read}
 use Rattle.plan.proofs.ReadBack.{read-accepted}
 use Rattle.plan.proofs.Refusals.{plan-injective}
 use Rattle.pieces.specs.declared.Piece.{Piece as CodePiece}
-use Rattle.items.specs.Walk.{Ahead, Passed}
-use Rattle.memory.specs.Held.{Rewritten}
-use Rattle.memory.specs.Model.{Aside, Finished, Fresh, Lent, PieceReady, Ready, Stepped, model, with-piece}
+use Rattle.items.specs.Walk.{ShowsAhead, Passed}
+use Rattle.memory.specs.Held.{HeldAlike}
+use Rattle.memory.specs.Model.{Aside, Finished, Fresh, Lent, PieceReady, Buildable, Stepped, model, with-piece}
 use Rattle.memory.specs.declared.Build.{Build}
 use Rattle.memory.specs.declared.Held.{Held}
 use Rattle.memory.proofs.Beginning.{fresh-building}
@@ -26,7 +26,7 @@ use Rattle.memory.proofs.Whole.{aside-on, aside-same}
 pub record Onward (text m₀ : List ℕ) (b₀ : Build) (m : List ℕ) (b : Build) (at : ℕ) : Type 0 where
   pub plan : Plan ℕ
   pub accepted : read tokenLimit (b .outer .0) text ≡ PLAN plan
-  pub ahead : Ahead text at
+  pub ahead : ShowsAhead text at
   pub lent : Lent (b .outer .0) m
   pub same : b .outer ≡ b₀ .outer
   pub aside : Aside (b₀ .outer .0) m₀ m
@@ -47,7 +47,7 @@ onward-start text {p = p} f short accepted =
     }
 
 module _ {text m₀ : List ℕ} {b₀ : Build} {m : List ℕ} {b : Build} {at : ℕ} (o : Onward text m₀ b₀ m b at) where
-  pub ready : Ready m b
+  pub ready : Buildable m b
   ready = building-ready refl (o .lent) (o .placed .built)
 
   -- the piece that the walk gave
@@ -78,7 +78,7 @@ module _ {text m₀ : List ℕ} {b₀ : Build} {m : List ℕ} {b : Build} {at : 
 
   -- behind the last piece
   module _ {m′ : List ℕ} {h : Held} (f : Finished m b m′ h) where
-    pub onward-end : o .ahead .come ≡ [] → (p : Plan ℕ) → read tokenLimit (b .outer .0) text ≡ PLAN p → Rewritten text m′ h p
+    pub onward-end : o .ahead .come ≡ [] → (p : Plan ℕ) → read tokenLimit (b .outer .0) text ≡ PLAN p → HeldAlike text m′ h p
     onward-end none p accepted =
         let held = place-end (o .plan) (subst (Placed text (b .outer .0) (b .outer .0) [] (o .plan) (model m b)) none (o .placed)) in
         let same : o .plan ≡ p = plan-injective (sym (o .accepted) ∙ accepted) in

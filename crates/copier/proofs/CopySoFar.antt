@@ -14,6 +14,7 @@ use Rattle.pieces.specs.Written.{Is}
 use Rattle.memory.specs.Memory.{start, close, datum, link, block-kind, ports, Linked, Says, Below, Absent, Shared}
 use Rattle.memory.specs.Model.{FindsCell, Model}
 use Rattle.memory.specs.Pieces.{Shown, piece-at}
+use Rattle.memory.proofs.Along.{along}
 use Rattle.memory.proofs.Beside.{Agree, Kept, link-kept, linked-agree, says-agree}
 use Rattle.memory.proofs.Building.{finish-in}
 use Rattle.memory.proofs.Lists.{absent-split, below-absent, below-split, distinct-split, not-before}
@@ -21,14 +22,14 @@ use Rattle.memory.proofs.Pieces.{piece-agree}
 use Rattle.memory.proofs.Placing.{Placed, place, place-end}
 use Rattle.memory.proofs.Ports.{ports-absent}
 use Rattle.copier.specs.Copying.{CopyHeld, like}
-use Rattle.copier.proofs.Ahead.{Road, road-less, road-on, road-ours, steps}
+use Rattle.copier.proofs.Road.{Road, road-less, road-on, road-ours}
 
 -- the cells in use beside the copy's contents: the plan's, and the copy itself
 abbrev pub beside : Plan ℕ → (root : ℕ) → List ℕ
 beside t root = labels t ++ root ∷ []
 
 -- w₀ is the memory as it was where the walk began
-pub record Going (text : List ℕ) (n : ℕ) (w₀ : List ℕ) (root stop : ℕ) (t b : Plan ℕ) (s : Model) (port : ℕ) : Type 0 where
+pub record CopySoFar (text : List ℕ) (n : ℕ) (w₀ : List ℕ) (root stop : ℕ) (t b : Plan ℕ) (s : Model) (port : ℕ) : Type 0 where
   pub ahead : List ℕ
   pub come : List (Piece ℕ)
   pub placed : Placed text n root (beside t root) b s come
@@ -37,12 +38,12 @@ pub record Going (text : List ℕ) (n : ℕ) (w₀ : List ℕ) (root stop : ℕ)
   pub shown : Shown text w₀ ahead come
   pub room : length (beside t root) + cells b ≤ n
 
-pub record Turn (text : List ℕ) (n : ℕ) (w₀ : List ℕ) (root stop : ℕ) (t b : Plan ℕ) (s : Model) (port : ℕ) : Type 0 where
+pub record CopyAhead (text : List ℕ) (n : ℕ) (w₀ : List ℕ) (root stop : ℕ) (t b : Plan ℕ) (s : Model) (port : ℕ) : Type 0 where
   pub below : port < start n
   pub finds : FindsCell (s .free) (s .opened) n (piece-at (s .numbers) port)
   pub ours : ¬ Absent (port / 2) (labels t)
-  pub next : Going text n w₀ root stop t b (like s port) (link w₀ port)
-  pub less : steps w₀ stop (2 * n) (link w₀ port) < steps w₀ stop (2 * n) port
+  pub next : CopySoFar text n w₀ root stop t b (like s port) (link w₀ port)
+  pub less : length (along w₀ stop (2 * n) (link w₀ port)) < length (along w₀ stop (2 * n) port)
 
 pub in-below : (n c : ℕ) (cs : List ℕ) → Below n cs → ¬ Absent c cs → c < n
 in-below n c cs low m = go (decLt c n)
@@ -71,7 +72,7 @@ module _ (n root : ℕ) (t : Plan ℕ) (more : List ℕ) {w : List ℕ} {free : 
 
 -- where a port of the plan links to is as it was
 pub turn-link : {text : List ℕ} {n : ℕ} {w₀ : List ℕ} {root stop : ℕ} {t b : Plan ℕ} {s : Model} {port : ℕ}
-    → Turn text n w₀ root stop t b s port → link (like s port .numbers) port ≡ link w₀ port
+    → CopyAhead text n w₀ root stop t b s port → link (like s port .numbers) port ≡ link w₀ port
 turn-link {n = n} {w₀ = w₀} {root = root} {t = t} {s = s} {port = port} u =
     let g = u .next in
     agrees n root t (seen (g .placed .out) (g .placed .here)) (g .placed .built .shared) w₀ (like s port .numbers) (g .kept) (2 * port + 1)
@@ -83,24 +84,24 @@ pub record Started (text : List ℕ) (n : ℕ) (w₀ : List ℕ) (root : ℕ) (t
   pub says : Says text w₀ t
   pub kind : datum w₀ (start root) ≡ block-kind
 
-module _ {text : List ℕ} {n : ℕ} {w₀ : List ℕ} {root stop : ℕ} {t b : Plan ℕ} {s : Model} {port : ℕ} (g : Going text n w₀ root stop t b s port) where
+module _ {text : List ℕ} {n : ℕ} {w₀ : List ℕ} {root stop : ℕ} {t b : Plan ℕ} {s : Model} {port : ℕ} (g : CopySoFar text n w₀ root stop t b s port) where
   -- a port ahead shows the same piece as where the walk began
   same-piece : (x : ℕ) → ¬ Absent (x / 2) (labels t) → piece-at (s .numbers) x ≡ piece-at w₀ x
   same-piece x m =
       piece-agree w₀ (s .numbers) x
       (λ i e. agrees n root t (seen (g .placed .out) (g .placed .here)) (g .placed .built .shared) w₀ (s .numbers) (g .kept) i (λ h. m (subst (λ c. Absent c (labels t)) e (h .1))))
 
-  pub turn : port ≢ stop → Turn text n w₀ root stop t b s port
+  pub turn : port ≢ stop → CopyAhead text n w₀ root stop t b s port
   unfolding like
   turn more = go (g .ahead) (g .come) (g .placed) (g .road) (g .shown)
     where
-      go : (xs : List ℕ) (ps : List (Piece ℕ)) → Placed text n root (beside t root) b s ps → Road w₀ n stop t port xs → Shown text w₀ xs ps → Turn text n w₀ root stop t b s port
-      go [] ps placed r shown = absurd (more (r .reaches))
+      go : (xs : List ℕ) (ps : List (Piece ℕ)) → Placed text n root (beside t root) b s ps → Road w₀ n stop t port xs → Shown text w₀ xs ps → CopyAhead text n w₀ root stop t b s port
+      go [] ps placed r shown = absurd (more (r .leads))
       go (x ∷ xs) [] placed r shown = absurd shown
       go (x ∷ xs) (z ∷ ps) placed r shown =
           let low = in-below n (x / 2) (labels t) (beside-below n root t (seen (g .placed .out) (g .placed .here)) (g .placed .built .shared) .0) (road-ours r) in
           let put = place b (g .room) (subst (λ k. Is text k z) (sym (same-piece x (road-ours r))) (shown .0)) placed in
-          subst (Turn text n w₀ root stop t b s) (sym (r .reaches .0))
+          subst (CopyAhead text n w₀ root stop t b s) (sym (r .leads .0))
           record {
             below = omega arith;
             finds = put .finds;
@@ -114,16 +115,16 @@ module _ {text : List ℕ} {n : ℕ} {w₀ : List ℕ} {root stop : ℕ} {t b : 
               shown = shown .1;
               room = g .room;
             };
-            less = subst (λ y. steps w₀ stop (2 * n) (link w₀ x) < steps w₀ stop (2 * n) y) (r .reaches .0) (road-less r);
+            less = subst (λ y. length (along w₀ stop (2 * n) (link w₀ x)) < length (along w₀ stop (2 * n) y)) (r .leads .0) (road-less r);
           }
 
   -- at the stop: the copy's last port is linked to its own close
-  pub going-end : port ≡ stop → Started text n w₀ root t → CopyHeld text n (set (s .numbers) (2 * s .tail + 1) (close root)) (s .free) root t b
-  going-end e start₀ = go (g .ahead) (g .come) (g .placed) (g .road) (g .shown)
+  pub copy-end : port ≡ stop → Started text n w₀ root t → CopyHeld text n (set (s .numbers) (2 * s .tail + 1) (close root)) (s .free) root t b
+  copy-end e start₀ = go (g .ahead) (g .come) (g .placed) (g .road) (g .shown)
     where
       go : (xs : List ℕ) (ps : List (Piece ℕ)) → Placed text n root (beside t root) b s ps → Road w₀ n stop t port xs → Shown text w₀ xs ps
           → CopyHeld text n (set (s .numbers) (2 * s .tail + 1) (close root)) (s .free) root t b
-      go (x ∷ xs) ps placed r shown = absurd (r .ends .0 (sym e ∙ r .reaches .0))
+      go (x ∷ xs) ps placed r shown = absurd (r .ends .0 (sym e ∙ r .leads .0))
       go [] (z ∷ ps) placed r shown = absurd shown
       go [] [] placed r shown =
           let (here, alike, built) = place-end b placed in

@@ -1,14 +1,10 @@
--- A walk along the chain of a plan in the memory, port by port up to the end mark, on plain values. The ports ahead are a
--- function of the port where the walk stands, with as many steps as all cells have ports: so the walk needs no plan to tell
--- where it is, and it ends. Every plan that the memory holds has these ports, so all of them have one printed text.
+-- The walk that prints a plan in the memory, port by port along the chain up to the end mark, on plain values. Every plan that the
+-- memory holds has the ports that are ahead, so all of them have one printed text.
 use Prim.Native.Nat.{ℕ, zero, suc, _+_, _*_, _/_, _≤_, _<_}
 use mathlib.Core.Path.{_≡_, refl, ap, sym, _∙_, subst}
-use mathlib.Core.Bool.{cond}
 use mathlib.Core.Logic.{_≢_}
 use mathlib.Core.List.{List, [], _∷_, _++_}
 use native.Mathlib.Omega.{arith}
-use borrow.Author.Tests.{eq-eqb, ne-eqb}
-use lib.Dec.{eqb}
 use lib.ListN.{length, drop, length-append, length-drop}
 use lib.Seq.{drop-at, drop-drop}
 use Rattle.kinds.specs.Limits.{cellNumbers}
@@ -19,33 +15,28 @@ use Rattle.memory.specs.Held.{HeldIn}
 use Rattle.pieces.specs.Written.{InText, piece-bytes, piece-length}
 use Rattle.pieces.specs.declared.Piece.{Piece}
 use Rattle.pieces.proofs.Pieces.{is-in-text, length-piece}
-use Rattle.memory.specs.Memory.{start, close, link, whole, ports, Linked, Below}
+use Rattle.memory.specs.Memory.{start, close, link, whole, ports, Linked, Below, Absent}
 use Rattle.memory.specs.Model.{Lent}
 use Rattle.memory.specs.Pieces.{piece-at, Shown, PrintsWithin}
 use Rattle.memory.specs.declared.Held.{Held}
+use Rattle.memory.proofs.Along.{along, along-leads, LeadsAlong}
 use Rattle.memory.proofs.Lists.{below-split}
 use Rattle.memory.proofs.Pieces.{piece-whole}
 use Rattle.memory.proofs.Ports.{below-ports}
 use Rattle.memory.proofs.Printing.{chain-shows, printed-ports, print-ports, length-ports}
 use Rattle.memory.proofs.Whole.{first-whole}
 
--- the ports from one on up to a stop, in so many steps
-unfoldable pub along : (w : List ℕ) → (stop steps port : ℕ) → List ℕ
-along w stop zero port = []
-along w stop (suc k) port = cond (eqb port stop) [] (port ∷ along w stop k (link w port))
-
 -- these are the ports from one on up to the end mark; each is of a lent cell, and what it prints stands in the text
 abbrev pub Chain : (text w : List ℕ) → (n port : ℕ) → List ℕ → Type 0
 Chain text w n port [] = port ≡ close n
 Chain text w n port (x ∷ ps) = (port ≡ x) × (x < start n) × InText text (piece-at w x) × Chain text w n (link w x) ps
 
+chain-leads : (text w : List ℕ) (n port : ℕ) (ps : List ℕ) → Chain text w n port ps → LeadsAlong w (close n) port ps × Absent (close n) ps
+chain-leads text w n port [] h = (h, tt)
+chain-leads text w n port (x ∷ ps) h = let r = chain-leads text w n (link w x) ps (h .3) in ((h .0, r .0), (omega arith, r .1))
+
 along-chain : (text w : List ℕ) (n steps port : ℕ) (ps : List ℕ) → Chain text w n port ps → length ps ≤ steps → along w (close n) steps port ≡ ps
-unfolding along
-along-chain text w n zero port [] h l = refl
-along-chain text w n zero port (x ∷ ps) h l = absurd (omega arith)
-along-chain text w n (suc k) port [] h l = rw (eq-eqb port (close n) h)
-along-chain text w n (suc k) port (x ∷ ps) h l =
-    rw (h .0, ne-eqb x (close n) (omega arith), along-chain text w n k (link w x) ps (h .3) (omega arith))
+along-chain text w n steps port ps h l = let r = chain-leads text w n port ps h in along-leads w (close n) steps port ps (r .0) (r .1) l
 
 -- the ports of a plan that the memory holds are such a chain
 
@@ -88,7 +79,7 @@ module _ (text m : List ℕ) (h : Held) (lent : Lent (h .outer .0) m) (t : Plan 
 
 -- where the walk stands
 
-pub record Walk (from room : ℕ) (text m : List ℕ) (n first port put : ℕ) : Type 0 where
+pub record PrintWalk (from room : ℕ) (text m : List ℕ) (n first port put : ℕ) : Type 0 where
   pub lent : Lent n m
   pub chain : Chain text (whole n m first) n port (ahead m n first port)
   pub few : length (ahead m n first port) ≤ 2 * n
@@ -96,7 +87,7 @@ pub record Walk (from room : ℕ) (text m : List ℕ) (n first port put : ℕ) :
   pub within : put ≤ length (printed-ahead text m n first first)
   pub so-far : printed-ahead text m n first port ≡ drop put (printed-ahead text m n first first)
 
-pub walk-first : (from room : ℕ) (text m : List ℕ) (h : Held) → PrintsWithin from room text m h → Walk from room text m (h .outer .0) (h .first .0) (h .first .0) 0
+pub walk-first : (from room : ℕ) (text m : List ℕ) (h : Held) → PrintsWithin from room text m h → PrintWalk from room text m (h .outer .0) (h .first .0) (h .first .0) 0
 walk-first from room text m h p =
     let e = held-ahead text m h (p .lent) (p .plan) (p .held) in
     record {
@@ -109,25 +100,25 @@ walk-first from room text m h p =
     }
 
 -- the first port ahead, and the ports behind it
-record Turn (text m : List ℕ) (n first port : ℕ) : Type 0 where
+record ChainAhead (text m : List ℕ) (n first port : ℕ) : Type 0 where
   below : port < start n
   in-text : InText text (piece-at (whole n m first) port)
   on : ahead m n first port ≡ port ∷ ahead m n first (link (whole n m first) port)
   chain : Chain text (whole n m first) n (link (whole n m first) port) (ahead m n first (link (whole n m first) port))
 
 turn : (text m : List ℕ) (n first port : ℕ) (ps : List ℕ) → ahead m n first port ≡ ps → length ps ≤ 2 * n
-    → Chain text (whole n m first) n port ps → port ≢ close n → Turn text m n first port
+    → Chain text (whole n m first) n port ps → port ≢ close n → ChainAhead text m n first port
 turn text m n first port [] e l h more = absurd (more h)
 turn text m n first port (x ∷ ps) e l h more =
     let next = along-chain text (whole n m first) n (2 * n) (link (whole n m first) x) ps (h .3) (omega arith) in
-    subst (Turn text m n first) (sym (h .0)) record {
+    subst (ChainAhead text m n first) (sym (h .0)) record {
       below = h .1;
       in-text = h .2;
       on = ap (ahead m n first) (sym (h .0)) ∙ e ∙ ap (x ∷_) (sym next);
       chain = rw next (h .3);
     }
 
-module _ (from room : ℕ) (text m : List ℕ) (n first port put : ℕ) (walk : Walk from room text m n first port put) where
+module _ (from room : ℕ) (text m : List ℕ) (n first port put : ℕ) (walk : PrintWalk from room text m n first port put) where
   abbrev w : List ℕ
   w = whole n m first
 
@@ -146,7 +137,7 @@ module _ (from room : ℕ) (text m : List ℕ) (n first port put : ℕ) (walk : 
 
   -- a turn: the code stops at `stop`, which is the end mark
   module _ (stop : ℕ) (mark : stop ≡ close n) (more : port ≢ stop) where
-    here : Turn text m n first port
+    here : ChainAhead text m n first port
     here = turn text m n first port (ahead m n first port) refl (walk .few) (walk .chain) (λ e. more (e ∙ sym mark))
 
     -- the port is one of a lent cell
@@ -185,7 +176,7 @@ module _ (from room : ℕ) (text m : List ℕ) (n first port put : ℕ) (walk : 
       pub walk-fits : from + put + piece-length piece ≤ room
       walk-fits = omega (arith, put-within, walk .fits)
 
-      pub walk-on : (len : ℕ) → len ≡ piece-length piece → (next : ℕ) → next ≡ link w port → Walk from room text m n first next (put + len)
+      pub walk-on : (len : ℕ) → len ≡ piece-length piece → (next : ℕ) → next ≡ link w port → PrintWalk from room text m n first next (put + len)
       walk-on len el next e = rw (e, el) record {
         lent = walk .lent;
         chain = here .chain;
@@ -198,7 +189,7 @@ module _ (from room : ℕ) (text m : List ℕ) (n first port put : ℕ) (walk : 
       }
 
 -- at the end mark the walk has put the whole printed text, of every plan that the memory holds
-pub walk-end : (from room : ℕ) (text m : List ℕ) (h : Held) (port put : ℕ) → Walk from room text m (h .outer .0) (h .first .0) port put
+pub walk-end : (from room : ℕ) (text m : List ℕ) (h : Held) (port put : ℕ) → PrintWalk from room text m (h .outer .0) (h .first .0) port put
     → (stop : ℕ) → stop ≡ close (h .outer .0) → port ≡ stop → (t : Plan ℕ) → HeldIn text m h t → put ≡ length (print t)
 walk-end from room text m h port put walk stop mark e t held =
     ended from room text m (h .outer .0) (h .first .0) port put walk (e ∙ mark) ∙ ap length (held-prints text m h (walk .lent) t held)

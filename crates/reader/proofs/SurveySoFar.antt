@@ -28,7 +28,7 @@ use Rattle.plan.proofs.Reached.{TextRead, text-read, text-fits}
 use Rattle.plan.proofs.Refusals.{row-refused}
 use Rattle.reader.specs.Counting.{Small, one-item, closed, stepped, finished, surveyed}
 use Rattle.reader.specs.declared.Count.{Count}
-use Rattle.reader.specs.declared.Step.the-variants.{On, Token, Stop}
+use Rattle.reader.specs.declared.ByteStep.the-variants.{On, Token, Stop}
 use Rattle.reader.specs.declared.Surveyed.the-variants.{Accepted, Refused}
 
 -- item number `room` begins at the place `first`
@@ -38,15 +38,15 @@ pub record PastAt (text : List ℕ) (room first at : ℕ) : Type 0 where
   pub begins : Begins (class (getD text first 0))
   pub before : first < at
 
-pub record Going (text : List ℕ) (room : ℕ) (n : Count) (at : ℕ) : Type 0 where
+pub record SurveySoFar (text : List ℕ) (room : ℕ) (n : Count) (at : ℕ) : Type 0 where
   pub short : length text ≤ textLimit
   pub within : at ≤ length text
   pub clean : Faultless tokenLimit 0 (take at text) (n .depth) (n .cells)
   pub keeps : length (without-blanks false (take at text)) ≡ n .length
   pub past : room < n .cells → PastAt text room (n .past .0) at
 
-pub going-small : {text : List ℕ} {room at : ℕ} {n : Count} → Going text room n at → Small n
-going-small {text} {room} {at} g =
+pub survey-small : {text : List ℕ} {room at : ℕ} {n : Count} → SurveySoFar text room n at → Small n
+survey-small {text} {room} {at} g =
     let whole = length-take-le at text (g .within) in
     record {
       depth = omega (arith, faultless-bounds (g .clean), g .within, g .short);
@@ -55,7 +55,7 @@ going-small {text} {room} {at} g =
     }
 
 -- the same with a further piece that holds no fault
-module _ {text : List ℕ} {room at : ℕ} {n : Count} (g : Going text room n at) (piece : List ℕ) (at′ : ℕ)
+module _ {text : List ℕ} {room at : ℕ} {n : Count} (g : SurveySoFar text room n at) (piece : List ℕ) (at′ : ℕ)
     (joined : take at′ text ≡ take at text ++ piece) (later : at < at′) (within : at′ ≤ length text) where
   cleaner : {d k : ℕ} → Faultless tokenLimit (n .depth) piece d k → Faultless tokenLimit 0 (take at′ text) d (n .cells + k)
   cleaner f = rw joined (faultless-then (g .clean) f)
@@ -73,7 +73,7 @@ module _ {text : List ℕ} {room at : ℕ} {n : Count} (g : Going text room n at
 
   -- no item begins in the piece
   same-items : (d kept-bytes : ℕ) → Faultless tokenLimit (n .depth) piece d 0 → length (without-blanks false piece) ≡ kept-bytes
-      → Going text room (record { depth = d; cells = n .cells; length = n .length + kept-bytes; past = n .past }) at′
+      → SurveySoFar text room (record { depth = d; cells = n .cells; length = n .length + kept-bytes; past = n .past }) at′
   same-items d kept-bytes f k =
       record {
         short = g .short;
@@ -86,7 +86,7 @@ module _ {text : List ℕ} {room at : ℕ} {n : Count} (g : Going text room n at
   -- one item begins, with the piece
   pub item-more : (d bytes : ℕ) → Faultless tokenLimit (n .depth) piece d 1 → length (without-blanks false piece) ≡ bytes
       → Begins (class (getD text at 0))
-      → Going text room (record { depth = d; cells = n .cells + 1; length = n .length + bytes; past = one-item n at room bytes .past }) at′
+      → SurveySoFar text room (record { depth = d; cells = n .cells + 1; length = n .length + bytes; past = one-item n at room bytes .past }) at′
   item-more d bytes f k begins =
       record {
         short = g .short;
@@ -101,10 +101,10 @@ module _ {text : List ℕ} {room at : ℕ} {n : Count} (g : Going text room n at
           record { deep = n .depth; clean = rw (eqb-true (n .cells) room e) at (g .clean); begins = begins; before = later }
       go false e h = still-past (let differ : n .cells ≢ room = eqb-false (n .cells) room e in omega arith)
 
-pub going-start : (text : List ℕ) (room : ℕ) (n : Count) → length text ≤ textLimit → n .depth ≡ 0 → n .cells ≡ 0 → n .length ≡ 0
-    → Going text room n 0
+pub survey-start : (text : List ℕ) (room : ℕ) (n : Count) → length text ≤ textLimit → n .depth ≡ 0 → n .cells ≡ 0 → n .length ≡ 0
+    → SurveySoFar text room n 0
 unfolding without-blanks
-going-start text room n short d c l =
+survey-start text room n short d c l =
     record {
       short = short;
       within = omega arith;
@@ -129,41 +129,41 @@ pub token-is-not-stop : {A : Type 0} {r : TextFault} → Token ≡ Stop r → A
 token-is-not-stop e = absurd (let z : _≡_ {A = ℕ} 0 1 = cc in omega arith)
 
 -- the byte at the place
-module _ {text : List ℕ} {room at : ℕ} {n : Count} (g : Going text room n at) (inside : at < length text) where
+module _ {text : List ℕ} {room at : ℕ} {n : Count} (g : SurveySoFar text room n at) (inside : at < length text) where
   abbrev here : ℕ
   here = getD text at 0
 
-  on-by-class : (k : Class) → class here ≡ k → (m : Count) → stepped n k at room ≡ On m → Going text room m (at + 1)
+  on-by-class : (k : Class) → class here ≡ k → (m : Count) → stepped n k at room ≡ On m → SurveySoFar text room m (at + 1)
   unfolding stepped
   on-by-class (OPERATOR o) c m e =
-      subst (λ x. Going text room x (at + 1)) (on-injective e)
+      subst (λ x. SurveySoFar text room x (at + 1)) (on-injective e)
       (item-more g (here ∷ []) (at + 1) (take-one text at inside) (omega arith) (omega arith) (n .depth) 1 (an-operator c nothing)
       (ap length (kept here (λ z. clash (sym c ∙ z) tt))) (rw c tt))
   on-by-class OPEN c m e =
-      subst (λ x. Going text room x (at + 1)) (on-injective e)
+      subst (λ x. SurveySoFar text room x (at + 1)) (on-injective e)
       (item-more g (here ∷ []) (at + 1) (take-one text at inside) (omega arith) (omega arith) (n .depth + 1) 1 (rw add-one (opens c nothing))
       (ap length (kept here (λ z. clash (sym c ∙ z) tt))) (rw c tt))
   on-by-class CLOSE c m e = go (eqb (n .depth) 0) refl e
     where
-      go : (t : Bool) → eqb (n .depth) 0 ≡ t → cond t (Stop (Unmatched (place at))) (On (closed n)) ≡ On m → Going text room m (at + 1)
+      go : (t : Bool) → eqb (n .depth) 0 ≡ t → cond t (Stop (Unmatched (place at))) (On (closed n)) ≡ On m → SurveySoFar text room m (at + 1)
       go true h e = stop-is-not-on e
       go false h e =
           let differ : n .depth ≢ 0 = eqb-false (n .depth) 0 h in
           let deep : n .depth ≡ suc (n .depth - 1) = omega arith in
-          subst (λ x. Going text room x (at + 1)) (on-injective e)
+          subst (λ x. SurveySoFar text room x (at + 1)) (on-injective e)
           (same-items g (here ∷ []) (at + 1) (take-one text at inside) (omega arith) (omega arith) (n .depth - 1) 1
           (subst (λ d. Faultless tokenLimit d (here ∷ []) (n .depth - 1) 0) (sym deep) (closes c nothing))
           (ap length (kept here (λ z. clash (sym c ∙ z) tt))))
   on-by-class BRACE c m e = token-is-not-on e
   on-by-class BLANK c m e =
       let counted : Count → ℕ → Count = λ m l. record { depth = m .depth; cells = m .cells; length = l; past = m .past } in
-      subst (λ x. Going text room x (at + 1)) (ap (counted n) (add-zero (n .length)) ∙ on-injective e)
+      subst (λ x. SurveySoFar text room x (at + 1)) (ap (counted n) (add-zero (n .length)) ∙ on-injective e)
       (same-items g (here ∷ []) (at + 1) (take-one text at inside) (omega arith) (omega arith) (n .depth) 0 (blank c nothing) (ap length (dropped here c)))
   on-by-class BAD c m e = stop-is-not-on e
 
   -- one byte that is no fault
-  pub going-on : (m : Count) → On m ≡ stepped n (class here) at room → Going text room m (at + 1)
-  going-on m e = on-by-class (class here) refl m (sym e)
+  pub survey-on : (m : Count) → On m ≡ stepped n (class here) at room → SurveySoFar text room m (at + 1)
+  survey-on m e = on-by-class (class here) refl m (sym e)
 
   -- a fault at this place is what reading refuses
   pub refused-here : {r : TextFault} → Fault tokenLimit at here (drop (suc at) text) (n .depth) r → Refused (Text r) ≡ surveyed (read tokenLimit room text)
@@ -190,8 +190,8 @@ module _ {text : List ℕ} {room at : ℕ} {n : Count} (g : Going text room n at
   stop-by-class BAD c r e =
       subst (λ s. Refused (Text s) ≡ surveyed (read tokenLimit room text)) (stop-injective e) (refused-here (bad-byte c))
 
-  pub going-stop : (r : TextFault) → Stop r ≡ stepped n (class here) at room → Refused (Text r) ≡ surveyed (read tokenLimit room text)
-  going-stop r e = stop-by-class (class here) refl r (sym e)
+  pub survey-stop : (r : TextFault) → Stop r ≡ stepped n (class here) at room → Refused (Text r) ≡ surveyed (read tokenLimit room text)
+  survey-stop r e = stop-by-class (class here) refl r (sym e)
 
 accepted : {limit k l : ℕ} {text : List ℕ} (room : ℕ) (t : TextRead limit text k) → k ≤ room → length (without-blanks false text) ≡ l
     → Accepted k l ≡ surveyed (read limit room text)
@@ -199,10 +199,10 @@ unfolding surveyed
 accepted room t h e = rw (text-fits room t h) (sym (ap₂ Accepted (t .counted) (ap length (t .printed) ∙ e)))
 
 -- the end of the text
-pub going-end : {text : List ℕ} {room at : ℕ} {n : Count} → Going text room n at → length text ≤ at
+pub survey-end : {text : List ℕ} {room at : ℕ} {n : Count} → SurveySoFar text room n at → length text ≤ at
     → finished n at room ≡ surveyed (read tokenLimit room text)
 unfolding finished surveyed
-going-end {text} {room} {at} {n} g ended = go (ltb 0 (n .depth)) refl (ltb room (n .cells)) refl
+survey-end {text} {room} {at} {n} g ended = go (ltb 0 (n .depth)) refl (ltb room (n .cells)) refl
   where
     end : at ≡ length text
     end = omega (arith, g .within)

@@ -26,7 +26,7 @@ use Rattle.reader.specs.declared.Surveyed.{Surveyed}
 use Rattle.reader.specs.declared.Surveyed.the-variants.{Accepted, Refused as RefusedText}
 use Rattle.pieces.specs.Written.{put-at}
 use Rattle.pieces.proofs.Putting.{put-front}
-use Rattle.memory.specs.Held.{HeldIn, Rewritten}
+use Rattle.memory.specs.Held.{HeldIn, HeldAlike}
 use Rattle.memory.specs.Model.{Aside, Lent}
 use Rattle.memory.specs.Pieces.{PrintsWithin, printLimit}
 use Rattle.memory.specs.declared.Held.{Held}
@@ -86,7 +86,7 @@ module _ {text m : List ℕ} (outer : Cell) {size : ℕ} (k : Acceptable text m 
   n = outer .0
 
   -- what `build_plan` built
-  module _ (m₁ : List ℕ) (h : Held) (built : (p : Plan ℕ) → read tokenLimit n text ≡ PLAN p → Rewritten text m₁ h p)
+  module _ (m₁ : List ℕ) (h : Held) (built : (p : Plan ℕ) → read tokenLimit n text ≡ PLAN p → HeldAlike text m₁ h p)
       (kept : h .outer ≡ outer) (aside : Aside n m m₁) where
     cell : h .outer .0 ≡ n
     cell = ap (λ (c : Cell). c .0) kept

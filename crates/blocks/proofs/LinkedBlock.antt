@@ -6,7 +6,7 @@ use Rattle.plan.specs.Plan.{Plan, labels}
 use Rattle.memory.specs.Held.{BlockIn}
 use Rattle.memory.specs.Memory.{start, close, ports, Linked, Below, Distinct, Holds}
 use Rattle.memory.proofs.Lists.{below-split, distinct-split, linked-split}
-use Rattle.memory.proofs.Within.{block-labels, block-ports}
+use Rattle.memory.proofs.BlockInPlan.{block-labels, block-ports}
 use Rattle.blocks.specs.Blocks.{Alone}
 
 pub block-alone : {text : List ℕ} {n : ℕ} {w : List ℕ} {free c : ℕ} {b t : Plan ℕ} → Holds text n w free t → BlockIn c b t → Alone n w c b
