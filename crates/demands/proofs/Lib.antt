@@ -1,6 +1,7 @@
 pub mod Answered
 pub mod Cases
 pub mod Endings
+pub mod Instances
 pub mod Meanings
 pub mod MoreNeverChanges
 pub mod Numbers

@@ -18,6 +18,7 @@ use Rattle.plan.specs.Running.{Leads}
 use Rattle.plan.specs.Services.{cleared, numbers, run, standard}
 use Rattle.plan.proofs.Rewrites.{finished-iff}
 use Rattle.services.specs.Calls.{Checks, Runs, Tidies}
+use Rattle.turnip.specs.Stored.{Answers, five}
 use Rattle.demands.specs.Demanded.{AsDemanded}
 use Rattle.demands.specs.Words.{Bare, NextFits, NextHasMoreThan, NoRuleApplies, Rewritten, Unrefused, lent, saved}
 use Rattle.demands.proofs.Endings.{
@@ -47,6 +48,23 @@ run-one-answer {text} {quota} {out = out} g h same = (
   g .zeroed ∙ ap (λ m. replicate m 0) same ∙ sym (h .zeroed),
   g .output ∙ ap (λ m. run standard text quota m out .output) same ∙ sym (h .output),
 )
+
+-- Over the C interface, where the answer is told by five numbers in the caller's array, as well.
+pub check-stored-once : {text stored stored₂ : List ℕ} → Answers (λ r. Checks text r) stored → Answers (λ r. Checks text r) stored₂
+    → stored ≡ stored₂
+check-stored-once g h = g .told ∙ ap (λ r. five (numbers r)) (check-one-answer (g .did) (h .did)) ∙ sym (h .told)
+
+pub tidy-stored-once : {text out left left′ stored stored₂ : List ℕ} → Answers (λ r. Tidies text out r left) stored
+    → Answers (λ r. Tidies text out r left′) stored₂ → (stored ≡ stored₂) × (left ≡ left′)
+tidy-stored-once g h =
+    let same = tidy-one-answer (g .did) (h .did) in (g .told ∙ ap (λ r. five (numbers r)) (same .0) ∙ sym (h .told), same .1)
+
+pub run-stored-once : {text : List ℕ} {quota : ℕ} {memory memory₂ out zeroed zeroed₂ left left₂ stored stored₂ : List ℕ}
+    → Answers (λ r. Runs text quota memory out r zeroed left) stored → Answers (λ r. Runs text quota memory₂ out r zeroed₂ left₂) stored₂
+    → length memory ≡ length memory₂ → (stored ≡ stored₂) × (zeroed ≡ zeroed₂) × (left ≡ left₂)
+run-stored-once g h lengths =
+    let same = run-one-answer (g .did) (h .did) lengths in
+    (g .told ∙ ap (λ r. five (numbers r)) (same .0) ∙ sym (h .told), same .1, same .2)
 
 -- The sentences of demand 2 leave one answer too: a version that says FULL always, prints the same text always, rewrites once and then
 -- only counts, or invents its steps meets them only where it answers as RUN does.

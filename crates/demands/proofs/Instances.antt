@@ -1,0 +1,144 @@
+-- No word that the demands are stated in is empty: an instance of each, on calls of document 01's plans. With a word that nothing meets,
+-- the theorems about it would hold and say nothing.
+use Prim.Native.Nat.{ℕ, _*_}
+use mathlib.Core.Path.{_≡_, refl}
+use mathlib.Core.Logic.{_≢_}
+use mathlib.Core.List.{List, [], _∷_, _++_}
+use native.Mathlib.Omega.{arith}
+use lib.ListN.{length, replicate}
+use Rattle.kinds.specs.Limits.{cellNumbers}
+use Rattle.plan.specs.declared.Answer.{Answer}
+use Rattle.plan.specs.declared.Answer.the-variants.{Ran, Refused}
+use Rattle.plan.specs.declared.Ending.{Ending}
+use Rattle.plan.specs.declared.Ending.the-variants.{Done, Quota, Full}
+use Rattle.plan.specs.declared.Operator.the-variants.{D}
+use Rattle.plan.specs.declared.Refusal.the-variants.{OutShort, Text}
+use Rattle.plan.specs.declared.TextFault.the-variants.{Unclosed}
+use Rattle.plan.specs.Plan.{Plan, WithoutC, end, operator, token, block, _then_, bare, cells, labels, letter, print, relabel}
+use Rattle.plan.specs.Token.{follows, scalar, value, well-formed, all-permitted, allowed, before-brace, character, if-allowed, may-hold, permits, token-text}
+use Rattle.plan.specs.Reading.{class, fit, go-on, move, past-token, place, read, read-from}
+use Rattle.plan.specs.Options.{_else_, under}
+use Rattle.plan.specs.Rewriting.{after-two, first-block, inner, next, outer}
+use Rattle.plan.specs.Running.{ask, one-more, run-plan, turn}
+use Rattle.plan.specs.Services.{GIVES, accept, as-read, as-run, cleared, numbers, reads, run, run-read, runs, standard, tidy, write}
+use Rattle.plan.specs.Slots.{after, next-slot, plus-steps, slots, total}
+use Rattle.plan.specs.Worked.{bytes}
+use Rattle.services.specs.Calls.{Runs, Tidies}
+use Rattle.turnip.specs.Stored.{Answers}
+use Rattle.demands.specs.Demanded.{AsDemanded}
+use Rattle.demands.specs.Slots.{Slot, Slots, first, only}
+use Rattle.demands.specs.Table.{RunRefuses, TidyRefuses}
+use Rattle.demands.specs.Words.{Bare, DONE, Ends, IsRefusal, NextFits, NextHasMoreThan, NoRuleApplies, OUTSHORT, Reads, Rewritten, Unrefused, saved}
+use Rattle.demands.proofs.Answered.{run-refused, tidy-refused}
+use Rattle.demands.proofs.Cases.{run-ended}
+use Rattle.demands.proofs.Endings.{done-exactly-when, full-exactly-when, quota-exactly-when, reads-rewrites-prints}
+use Rattle.demands.proofs.OneAnswer.{run-as-demanded}
+
+-- P6 as a whole run and as two slots, the second of which begins with P7's text; `[{x}]c` with its own three cells; a block left open;
+-- and P6 with no output
+abbrev p6 : List ℕ
+p6 = bytes "[{x}][{y}][]ba"
+
+abbrev p7 : List ℕ
+p7 = bytes "[{x}][[{y}]]a"
+
+abbrev ended : List ℕ
+ended = bytes "[{y}][{x}]"
+
+-- any numbers, as many as so many cells have
+abbrev memory : (lent : ℕ) → List ℕ
+memory n = replicate (cellNumbers * n) 7
+
+abbrev zeroed : (lent : ℕ) → List ℕ
+zeroed n = replicate (cellNumbers * n) 0
+
+abbrev out : List ℕ
+out = replicate 16 7
+
+pub calls : Runs p6 2 (memory 7) out (Ran Done 2 4 10) (zeroed 7) (ended ++ replicate 6 7)
+    × Runs p6 1 (memory 7) out (Ran Quota 1 6 13) (zeroed 7) (p7 ++ replicate 3 7)
+    × Runs p7 1 (memory 7) out (Ran Done 1 4 10) (zeroed 7) (ended ++ replicate 6 7)
+    × Runs (bytes "[{x}]c") 9 (memory 3) out (Ran Full 0 3 6) (zeroed 3) (bytes "[{x}]c" ++ replicate 10 7)
+    × Runs (bytes "[") 9 (memory 7) out (Refused (Text (Unclosed (place 1)))) (zeroed 7) out
+    × Runs p6 2 (memory 7) [] (Refused (OutShort 10)) (zeroed 7) []
+    × (slots standard 7 1 (1 ∷ []) p6 ≡ GIVES (Ran Done 2 4 10) ended)
+    × Tidies (bytes "[") out (Refused (Text (Unclosed (place 1)))) out × Tidies p6 [] (Refused (OutShort 14)) []
+unfolding slots next-slot after plus-steps cleared run runs run-read tidy reads as-read as-run accept write read read-from go-on move past-token fit class token-text if-allowed before-brace allowed all-permitted permits may-hold character value follows scalar well-formed cells labels print letter _then_ run-plan turn ask one-more next outer inner first-block after-two under _else_ bytes
+calls = (
+  record { answer = refl; output = refl; zeroed = refl },
+  record { answer = refl; output = refl; zeroed = refl },
+  record { answer = refl; output = refl; zeroed = refl },
+  record { answer = refl; output = refl; zeroed = refl },
+  record { answer = refl; output = refl; zeroed = refl },
+  record { answer = refl; output = refl; zeroed = refl },
+  refl,
+  record { answer = refl; output = refl },
+  record { answer = refl; output = refl },
+)
+
+-- `Unrefused`, `Rewritten` (with `Reads` and `Leads` in it), and why a run ends: no rule applies, the next result fits, or it does not
+pub a-done-run : Unrefused (Ran Done 2 4 10) × ((q : Bare) × Rewritten 7 p6 2 q × NoRuleApplies q)
+a-done-run =
+    let u : Unrefused (Ran Done 2 4 10) = omega arith in
+    let made = reads-rewrites-prints (calls .0) u in
+    (u, (made .0, made .1, done-exactly-when (calls .0) u (made .1) .0 refl))
+
+pub a-quota-run : Unrefused (Ran Quota 1 6 13) × ((q : Bare) × Rewritten 7 p6 1 q × NextFits 7 q)
+a-quota-run =
+    let u : Unrefused (Ran Quota 1 6 13) = omega arith in
+    let made = reads-rewrites-prints (calls .1) u in
+    (u, (made .0, made .1, quota-exactly-when (calls .1) u (made .1) .0 refl))
+
+pub a-full-run : Unrefused (Ran Full 0 3 6) × ((q : Bare) × Rewritten 3 (bytes "[{x}]c") 0 q × NextHasMoreThan 3 q)
+a-full-run =
+    let u : Unrefused (Ran Full 0 3 6) = omega arith in
+    let made = reads-rewrites-prints (calls .3) u in
+    (u, (made .0, made .1, full-exactly-when (calls .3) u (made .1) .0 refl))
+
+-- `Ends` and demand 2 as one statement
+pub an-end : (e : Ending) × (steps : ℕ) × (q : Bare) × Ends 7 2 p6 e steps q
+an-end = let run = run-ended (calls .0) (a-done-run .0) in (run .ending, run .steps, run .result, run .ends)
+
+pub as-demanded : AsDemanded 7 2 p6 DONE 2 ended
+unfolding bytes
+as-demanded = run-as-demanded (calls .0) (a-done-run .0)
+
+-- refusals, by both rows of `RunRefuses` and of `TidyRefuses`
+pub a-refusal : IsRefusal (Refused (OutShort 10)) × (Unrefused (Refused (OutShort 10)) → ⊥)
+a-refusal = ((OutShort 10, refl), λ u. omega arith)
+
+pub refused-runs : RunRefuses 7 9 (bytes "[") out (Text (Unclosed (place 1))) × RunRefuses 7 2 p6 [] (OutShort 10)
+refused-runs = (run-refused (calls .4) (Text (Unclosed (place 1))) .1 refl, run-refused (calls .5) (OutShort 10) .1 refl)
+
+pub refused-tidyings : TidyRefuses (bytes "[") out (Text (Unclosed (place 1))) × TidyRefuses p6 [] (OutShort 14)
+refused-tidyings = (tidy-refused (calls .7) (Text (Unclosed (place 1))) .1 refl, tidy-refused (calls .8) (OutShort 14) .1 refl)
+
+-- P6 in two slots of quota 1, which are its quota of 2
+slot : {text : List ℕ} {quota : ℕ} {r : Answer} {out′ : List ℕ} → Runs text quota (memory 7) out r (zeroed 7) out′
+    → numbers r .number ≢ OUTSHORT → Slot (length (memory 7)) text quota r (saved r out′)
+slot call enough =
+    record {
+      memory = memory 7;
+      out = out;
+      memory′ = zeroed 7;
+      out′ = _;
+      call = call;
+      equal-memory = refl;
+      output-long-enough = enough;
+      saves = refl;
+    }
+
+pub two-slots : Slots (length (memory 7)) p6 1 (1 ∷ []) 2 (Ran Done 1 4 10) ended × (total 1 (1 ∷ []) ≡ 2)
+unfolding bytes total
+two-slots = (first (slot (calls .1) (λ e. absurd (omega arith))) (only (slot (calls .2) (λ e. absurd (omega arith)))), refl)
+
+-- P5 is a plan without c
+pub a-plan-without-c : (p : Bare) × Reads 3 (bytes "[{x}]d") p × WithoutC p
+unfolding accept read read-from go-on move past-token fit class token-text if-allowed before-brace allowed all-permitted permits may-hold character value follows scalar well-formed cells labels under _then_ bytes relabel
+a-plan-without-c =
+    let placed : Plan ℕ = block 0 (token 1 (bytes "x") end) (operator 5 D end) in
+    (bare placed, record { placed = placed; accepted = refl; same = refl }, (tt, (λ e. let z : _≡_ {A = ℕ} 0 1 = cc in omega arith, tt)))
+
+-- and five numbers stored over the C interface
+pub five-stored : Answers (λ r. Runs p6 2 (memory 7) out r (zeroed 7) (ended ++ replicate 6 7)) (0 ∷ 2 ∷ 4 ∷ 10 ∷ 0 ∷ [])
+five-stored = record { answer = Ran Done 2 4 10; did = calls .0; told = refl }
