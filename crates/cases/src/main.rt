@@ -6,16 +6,16 @@ ghost use Prim.Native.Nat.{_≤_};
 ghost use lib.ListN.{length};
 ghost use Rattle.kinds.specs.Limits.{cellLimit};
 ghost use Rattle.plan.specs.Services.{numbers};
-use io::print_decimal;
-use io::write_all;
 use kinds::Cell;
 use lending::all_zero;
 use lending::fill_memory;
 use lending::fill_output;
 use lending::untouched;
-use libc::STDOUT_FILENO;
 use plan::Answer;
+use telling::mind;
 use telling::printed_length;
+use telling::say;
+use telling::say_count;
 use telling::tell_numbers;
 use telling::tell_printed;
 
@@ -28,30 +28,30 @@ const OUTPUT: usize = 1000;
 const DEEP: usize = 2 * Cell::LIMIT;
 
 fn bar() {
-    write_all(STDOUT_FILENO, b" | ");
+    say(b" | ");
 }
 
 fn tell_given(name: &[u8], text: &[u8], cells: usize, quota: u32) {
-    write_all(STDOUT_FILENO, name);
+    say(name);
     bar();
-    write_all(STDOUT_FILENO, text);
+    say(text);
     bar();
-    print_decimal(STDOUT_FILENO, cells as u64);
+    say_count(cells as u64);
     bar();
-    print_decimal(STDOUT_FILENO, quota as u64);
+    say_count(quota as u64);
     bar();
 }
 
 fn tell_rest(memory: &[u32], output: &[u8], from: usize) {
     if all_zero(memory) {
-        write_all(STDOUT_FILENO, b"memory 0, ");
+        say(b"memory 0, ");
     } else {
-        write_all(STDOUT_FILENO, b"memory NOT 0, ");
+        say(b"memory NOT 0, ");
     }
     if untouched(output, from) {
-        write_all(STDOUT_FILENO, b"rest untouched\n");
+        say(b"rest untouched\n");
     } else {
-        write_all(STDOUT_FILENO, b"rest CHANGED\n");
+        say(b"rest CHANGED\n");
     }
 }
 
@@ -70,9 +70,9 @@ fn tell_run(text: &[u8], quota: u32, memory: &mut [u32], output: &mut [u8]) -> u
 {
     let answer = run_filled(text, quota, memory, output);
     let length = printed_length(answer);
-    tell_numbers(answer);
+    mind(tell_numbers(answer));
     bar();
-    tell_printed(answer, output);
+    mind(tell_printed(answer, output));
     bar();
     tell_rest(memory, output, length);
     length
@@ -192,15 +192,15 @@ fn nest(text: &mut [u8; DEEP]) {
 }
 
 fn tell_bytes(count: usize) {
-    print_decimal(STDOUT_FILENO, count as u64);
-    write_all(STDOUT_FILENO, b" bytes | ");
+    say_count(count as u64);
+    say(b" bytes | ");
 }
 
 // A plan nested to the limit: its text and what is printed are told by their lengths.
 fn run_deep(text: &[u8], memory: &mut [u32], output: &mut [u8]) {
     let answer = run_filled(text, 100, memory, output);
     let length = printed_length(answer);
-    tell_numbers(answer);
+    mind(tell_numbers(answer));
     bar();
     tell_bytes(length);
     tell_rest(memory, output, length);
@@ -208,18 +208,15 @@ fn run_deep(text: &[u8], memory: &mut [u32], output: &mut [u8]) {
 
 fn tell_deep(text: &mut [u8; DEEP], memory: &mut [u32; MEMORY], output: &mut [u8; DEEP]) {
     nest(text);
-    write_all(STDOUT_FILENO, b"nested to the limit | ");
+    say(b"nested to the limit | ");
     tell_bytes(DEEP);
-    print_decimal(STDOUT_FILENO, Cell::LIMIT as u64);
-    write_all(STDOUT_FILENO, b" | 100 | ");
+    say_count(Cell::LIMIT as u64);
+    say(b" | 100 | ");
     run_deep(text, memory, output);
 }
 
 fn tell_heading() {
-    write_all(
-        STDOUT_FILENO,
-        b"plan | text | cells | quota | number steps cells length place | printed | afterwards\n",
-    );
+    say(b"plan | text | cells | quota | number steps cells length place | printed | afterwards\n");
 }
 
 fn tell_all(memory: &mut [u32; MEMORY], output: &mut [u8; OUTPUT], again: &mut [u8; OUTPUT]) {

@@ -1,4 +1,5 @@
-// Writes to standard output what a service answered: the five numbers of document 01, and the printed text.
+// Writes to standard output: what a service answered, as the five numbers of document 01 and the printed text, and plain words and
+// counts.
 ghost use mathlib.Core.Path.{_≡_};
 ghost use Prim.Native.Nat.{_≤_};
 ghost use lib.ListN.{length};
@@ -7,6 +8,21 @@ use io::print_decimal;
 use io::write_all;
 use libc::STDOUT_FILENO;
 use plan::Answer;
+
+// What could not be written is said on standard error.
+pub fn mind(written: bool) {
+    if !written {
+        os::fail(b"standard output");
+    }
+}
+
+pub fn say(bytes: &[u8]) {
+    mind(write_all(STDOUT_FILENO, bytes));
+}
+
+pub fn say_count(count: u64) {
+    mind(print_decimal(STDOUT_FILENO, count));
+}
 
 fn wide(number: u32) -> u64 {
     number as u64

@@ -27,11 +27,11 @@ use lending::all_zero;
 use lending::fill_memory;
 use lending::fill_output;
 use lending::untouched;
-use libc::STDOUT_FILENO;
 use plan::Answer;
 use report::LineReport;
 use report::Report;
 use report::RunReport;
+use telling::say;
 
 // Room for all of the input, and more.
 const INPUT: usize = 2_097_152;
@@ -211,7 +211,7 @@ fn run_input(
         return;
     };
     if input.len() <= read {
-        io::write_all(STDOUT_FILENO, b"input too long\n");
+        say(b"input too long\n");
         return;
     }
     let report = run_cases(&input[0..read], text, memory, output, expected);

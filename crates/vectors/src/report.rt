@@ -1,7 +1,6 @@
 // What came of the lines: a tally for each kind of case, and the first lines that are not as they should be.
-use io::print_decimal;
-use io::write_all;
-use libc::STDOUT_FILENO;
+use telling::say;
+use telling::say_count;
 
 // Further faults are only counted.
 const POINTED_OUT: u64 = 10;
@@ -59,15 +58,15 @@ impl RunReport {
 
     fn point_out(self) {
         if !self.as_expected {
-            write_all(STDOUT_FILENO, b" differs");
+            say(b" differs");
         }
         if !self.memory_zero {
-            write_all(STDOUT_FILENO, b" leaves memory");
+            say(b" leaves memory");
         }
         if !self.rest_untouched {
-            write_all(STDOUT_FILENO, b" changes output bytes");
+            say(b" changes output bytes");
         }
-        write_all(STDOUT_FILENO, b"\n");
+        say(b"\n");
     }
 }
 
@@ -82,15 +81,15 @@ impl LineReport {
     }
 
     fn point_out(self, line: u64) {
-        write_all(STDOUT_FILENO, b"line ");
-        print_decimal(STDOUT_FILENO, line);
+        say(b"line ");
+        say_count(line);
         match self {
             LineReport::Malformed => {
-                write_all(STDOUT_FILENO, b" is malformed\n");
+                say(b" is malformed\n");
             }
             LineReport::Ran(run) => run.point_out(),
             _ => {
-                write_all(STDOUT_FILENO, b" differs\n");
+                say(b" differs\n");
             }
         }
     }
@@ -124,11 +123,11 @@ impl Tally {
 
     // With no line end: of runs there is more to say.
     fn print(self, kind: &[u8]) {
-        write_all(STDOUT_FILENO, kind);
-        print_decimal(STDOUT_FILENO, self.cases);
-        write_all(STDOUT_FILENO, b" cases, ");
-        print_decimal(STDOUT_FILENO, self.differences);
-        write_all(STDOUT_FILENO, b" differences");
+        say(kind);
+        say_count(self.cases);
+        say(b" cases, ");
+        say_count(self.differences);
+        say(b" differences");
     }
 }
 
@@ -153,11 +152,11 @@ impl RunTally {
     fn print(self, kind: &[u8]) {
         let cases = self.cases;
         cases.print(kind);
-        write_all(STDOUT_FILENO, b", ");
-        print_decimal(STDOUT_FILENO, self.memory_left);
-        write_all(STDOUT_FILENO, b" with memory left, ");
-        print_decimal(STDOUT_FILENO, self.rest_changed);
-        write_all(STDOUT_FILENO, b" with output bytes changed");
+        say(b", ");
+        say_count(self.memory_left);
+        say(b" with memory left, ");
+        say_count(self.rest_changed);
+        say(b" with output bytes changed");
     }
 }
 
@@ -207,10 +206,10 @@ impl Report {
         check.print(b"check ");
         tidy.print(b"\ntidy ");
         run.print(b"\nrun ");
-        write_all(STDOUT_FILENO, b"\n");
-        print_decimal(STDOUT_FILENO, self.lines);
-        write_all(STDOUT_FILENO, b" lines, ");
-        print_decimal(STDOUT_FILENO, self.faults);
-        write_all(STDOUT_FILENO, b" faults\n");
+        say(b"\n");
+        say_count(self.lines);
+        say(b" lines, ");
+        say_count(self.faults);
+        say(b" faults\n");
     }
 }

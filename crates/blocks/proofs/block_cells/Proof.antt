@@ -39,10 +39,15 @@ add-count c =
     omega (arith, count-fits (e .before .before .before .loop .inv) (e .if1 .taken) (is-start _ (p .closes .ensures) (c .if2 .taken)))
 
 link-of-requires-2 : tie.Need-link-of-requires-2 Inv-loop μ-loop
-link-of-requires-2 c κs = (search needs, search count-low)
+link-of-requires-2 c κs =
+    let p = c .before in
+    let e = p .before in
+    (e .before .before .before .loop .inv .lent, count-low (e .before .before .before .loop .inv) (e .if1 .taken))
 
 loop-less : tie.Need-loop-less Inv-loop μ-loop
-loop-less c = search (needs, count-less)
+loop-less c =
+    let e = c .before .before .before in
+    count-less (e .before .before .before .loop .inv) (e .if1 .taken) _ (c .link-of2 .ensures)
 
 loop-again : tie.Need-loop-again Inv-loop μ-loop
 loop-again c =
@@ -55,7 +60,10 @@ loop-again c =
     (c .before .if2 .came)
 
 returns : tie.Need-returns Inv-loop μ-loop
-returns c = search (needs, count-end)
+returns c =
+    let l = c .before .before .before in
+    count-end _ _ _ _ _ _ _ _ _ (l .loop .inv) (c .if1 .left) (l .before .before .before .close .ensures) (l .before .before .start .ensures)
+    (l .before .link-of .ensures)
 
 pub block-cells-spec : {M : Type 1} → statement M
 block-cells-spec =

@@ -33,7 +33,14 @@ same-length : tie.Need-same-length
 same-length c = search needs
 
 returns : tie.Need-returns
-returns c = (search (needs, place-stored), search (needs, aside-on))
+returns c =
+    let second = c .before .before in
+    let first = second .before .before .before .before .before in
+    let closed = first .before .before .before in
+    let args = closed .before .before .before .before .args in (
+      place-stored _ _ _ (args .b) _ _ _ (closed .close .ensures) (first .set-number .ensures .0) (second .set-number2 .ensures .0),
+      aside-on (first .set-number .ensures .1) (second .set-number2 .ensures .1),
+    )
 
 pub set-place-spec : {M : Type 1} → statement M
 set-place-spec =

@@ -26,7 +26,8 @@ same-length c = search needs
 returns : tie.Need-returns Inv-loop μ-loop
 returns c =
     let t = c .before .before .before .before .before in
-    (so-far-stop (t .before .before .loop .inv) _ _ (t .step .ensures .0) (c .before .ending .given .1), (search needs, search so-far-aside))
+    let l = t .before .before .loop .inv in
+    (so-far-stop l _ _ (t .step .ensures .0) (c .before .ending .given .1), (l .same, so-far-aside l (t .step .ensures .1 .1)))
 
 enum-known-held : tie.Need-enum-known-held Inv-loop μ-loop
 enum-known-held c = search needs
@@ -42,7 +43,9 @@ loop-less c =
     so-far-less (l .loop .inv) _ _ (c .before .before .before .before .before .step .ensures .0) (c .before .held .given .1)
 
 loop-again : tie.Need-loop-again Inv-loop μ-loop
-loop-again c = search so-far-on
+loop-again c =
+    let s = c .before .before .before .before .before in
+    so-far-on (s .before .before .loop .inv) _ _ (s .step .ensures .0) (c .before .held .given .1) (s .step .ensures .1 .0) (s .step .ensures .1 .1)
 
 pub run-spec : {M : Type 1} → statement M
 run-spec =

@@ -59,7 +59,7 @@ loop-again c =
     (λ w. hunt-on inv (t .if1 .taken) _ (a .opens .ensures) (w .left) _ (c .link-of .ensures)) (c .before .if2 .came)
 
 returns-2 : tie.Need-returns-2 Inv-loop μ-loop
-returns-2 c = search (needs, hunt-none)
+returns-2 c = hunt-none (c .before .before .before .loop .inv) (c .if1 .left)
 
 pub hunt-spec : {M : Type 1} → statement M
 hunt-spec =
