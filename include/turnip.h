@@ -1,6 +1,7 @@
-/* The C interface of the plan reader: CHECK, TIDY and RUN over lent bytes and numbers. `rt staticlib turnip` writes
-   target/staticlib/libturnip.a, which defines these functions for x86-64 Linux. Each of them is proved to do, for every
-   input, what the definitions in crates/plan/specs say; crates/turnip/src/lib.rt has the contracts. */
+/* The C interface of the plan reader: CHECK, TIDY and RUN over lent bytes and numbers, and the roll of filed jobs.
+   `rt staticlib turnip` writes target/staticlib/libturnip.a, which defines these functions for x86-64 Linux. Each of them is
+   proved to do, for every input, what the definitions in crates/plan/specs and crates/filing/specs say;
+   crates/turnip/src/lib.rt has the contracts. */
 #ifndef TURNIP_H
 #define TURNIP_H
 
@@ -64,6 +65,65 @@ void turnip_tidy(const uint8_t *text, size_t text_length, uint8_t *out, size_t o
    are 0. An output of 262,144 bytes is long enough for every plan. */
 void turnip_run(const uint8_t *text, size_t text_length, uint32_t quota, uint32_t *memory, size_t memory_length,
                 uint8_t *out, size_t out_length, uint32_t answer[5]);
+
+/* The roll of filed jobs: bytes that a clerk's program keeps on disk. A roll of no bytes lists nothing. Any other starts with
+   the byte 1, and entries follow, one behind the other. An entry is its number of sections (2 for FILED: the job number and a
+   text; 1 for DONE: the job number), then for each section the number of its bytes, and these. All such numbers are four
+   bytes, lowest first. A job number is 1 to 10 bytes 0 to 9; a text is a printed text, as TIDY and RUN write it.
+
+   What stands behind the last whole entry is torn: a power cut left it. It is no part of the roll, and no reason to refuse
+   it. A program that adds an entry cuts its file at the end that reading gave, writes the bytes from there to the new end,
+   and only then goes on; whatever part of them reaches the disk, the roll reads as it was, or with the new entry.
+
+   A list or a tally that is lent is written only by a call that answers 3, and a buffer only from the old end to the new. */
+
+/* The five numbers of an answer, in answer[0] to answer[4]; for one entry the numbers after the first are its own. */
+enum turnip_roll_field {
+    TURNIP_ROLL_NUMBER,  /* which answer this is: one of the numbers below */
+    TURNIP_ROLL_ENTRIES, /* whole entries; 0 for every number but 3 */
+    TURNIP_ROLL_FILED,   /* jobs with a FILED, done or not; 0 for every number but 3 */
+    TURNIP_ROLL_DONE,    /* jobs with a DONE; 0 for every number but 3 */
+    TURNIP_ROLL_PLACE    /* for 3 the end of the whole entries; else a place in the roll, or what is needed */
+};
+
+enum turnip_entry_field {
+    TURNIP_ENTRY_NUMBER,     /* 3, 11 or 39 */
+    TURNIP_ENTRY_JOB,        /* where the job number stands in the roll */
+    TURNIP_ENTRY_JOB_BYTES,  /* and its bytes */
+    TURNIP_ENTRY_TEXT,       /* where the text stands in the roll; 0 for DONE */
+    TURNIP_ENTRY_TEXT_BYTES  /* and its bytes; 0 for DONE */
+};
+
+/* Which answer it is, in the order in which they are tried. */
+enum turnip_roll_number {
+    TURNIP_ROLL_READ = 3,         /* read, or added; the place is the end */
+    TURNIP_ROLL_TOOLONG = 11,     /* the roll or the buffer is over 4,294,967,295 bytes */
+    TURNIP_ROLL_BADROLL = 31,     /* another first byte, at 0; or a whole entry that breaks a rule, at its first byte */
+    TURNIP_ROLL_BADJOB = 32,      /* adding: not 1 to 10 bytes 0 to 9 */
+    TURNIP_ROLL_BADTEXT = 33,     /* adding FILED: not the printed text of a plan that CHECK accepts */
+    TURNIP_ROLL_ALREADYDONE = 34, /* adding: the job has a DONE; its place */
+    TURNIP_ROLL_UNFILED = 35,     /* adding DONE: the job has no FILED */
+    TURNIP_ROLL_UNFINISHED = 36,  /* adding DONE: its last FILED text has a ready operator; that FILED's place */
+    TURNIP_ROLL_NOROOM = 37,      /* adding: the new end is past the buffer; the bytes needed, at most 4,294,967,295 */
+    TURNIP_ROLL_MOREENTRIES = 38, /* reading: more entries than the list holds; the entries needed */
+    TURNIP_ROLL_NOENTRY = 39      /* one entry: no whole entry of 1 or 2 sections stands at that place */
+};
+
+/* Reads a roll: the places of its whole entries go to the start of list, in order, and its other numbers are as they were. */
+void turnip_roll_read(const uint8_t *roll, size_t roll_length, uint32_t *list, size_t list_length, uint32_t answer[5]);
+
+/* Tells the entry at a place, by its own bytes alone: that the roll reads is not said by it. */
+void turnip_roll_entry(const uint8_t *roll, size_t roll_length, size_t at, uint32_t answer[5]);
+
+/* Adds a FILED, or a DONE, to the roll in the first `used` bytes of a buffer; more than the buffer has count as all of them.
+   The answer is that of the new roll read afresh, and its place is the new end: the bytes in use from then on. Torn bytes
+   that the new entry does not reach stay in the buffer and are no part of the roll. A tally is two numbers, jobs filed and jobs
+   done: where it was that of the roll it is then that of the new one. */
+void turnip_roll_file(uint8_t *roll, size_t roll_length, size_t used, const uint8_t *job, size_t job_length,
+                      const uint8_t *text, size_t text_length, uint32_t tally[2], uint32_t answer[5]);
+
+void turnip_roll_done(uint8_t *roll, size_t roll_length, size_t used, const uint8_t *job, size_t job_length,
+                      uint32_t tally[2], uint32_t answer[5]);
 
 #ifdef __cplusplus
 }

@@ -73,6 +73,17 @@ without-blanks-length false (b ∷ bs) =
     omega (arith, without-blanks-length (eqb b open-brace) bs) in
     cond-cases (λ (us : List ℕ). length us ≤ suc (length bs)) (eqb b 32 || eqb b 10) (λ _. dropped) (λ _. kept)
 
+-- a text that is as long without its blanks has none
+pub without-blanks-same : (in-token : Bool) (bs : List ℕ) → length (without-blanks in-token bs) ≡ length bs → without-blanks in-token bs ≡ bs
+unfolding without-blanks
+without-blanks-same in-token [] e = refl
+without-blanks-same true (b ∷ bs) e = ap (b ∷_) (without-blanks-same (not (eqb b close-brace)) bs (omega arith))
+without-blanks-same false (b ∷ bs) e =
+    let kept = without-blanks-same (eqb b open-brace) bs in
+    let few = without-blanks-length false bs in
+    cond-cases (λ (us : List ℕ). length us ≡ suc (length bs) → us ≡ b ∷ bs) (eqb b 32 || eqb b 10) (λ _ h. absurd (omega arith))
+    (λ _ h. ap (b ∷_) (kept (omega arith))) e
+
 -- one byte more of a text
 pub take-one : (text : List ℕ) (at : ℕ) → at < length text → take (at + 1) text ≡ take at text ++ getD text at 0 ∷ []
 take-one text at h = ap (λ k. take k text) (add-one at) ∙ take-suc text at 0 h

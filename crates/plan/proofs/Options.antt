@@ -1,8 +1,10 @@
 -- Laws of what may be missing.
 use mathlib.Core.Path.{_≡_, refl, ap}
-use mathlib.Core.Logic.{_⊎_, ⊎-elim}
+use mathlib.Core.Logic.{_↔_, _⊎_, ⊎-elim}
+use mathlib.Core.Bool.{true}
 use mathlib.Core.Option.{Option, none, some, IsSome}
-use Rattle.plan.specs.Options.{_else_, under}
+use Rattle.plan.specs.Options.{_else_, is-none, under}
+use Rattle.plan.proofs.Tests.{false-is-not-true}
 
 -- what holds of the value, if there is one
 abbrev pub Each : {A : Type 0} → (A → Type 0) → Option A → Type 0
@@ -28,7 +30,17 @@ module _ {A : Type 0} where
   pub else-either : (x y : Option A) → IsSome x ⊎ IsSome y → IsSome (x else y)
   else-either x y = ⊎-elim (else-left x y) (else-right x y)
 
+  pub none-when : (x : Option A) → (is-none x ≡ true) ↔ (x ≡ none)
+  unfolding is-none
+  none-when none = (λ h. refl, λ h. refl)
+  none-when (some a) = (λ h. false-is-not-true h, λ h. ap is-none h)
+
 module _ {A B : Type 0} (f : A → B) where
+  pub under-none : (x : Option A) → is-none (under f x) ≡ is-none x
+  unfolding is-none under
+  under-none none = refl
+  under-none (some a) = refl
+
   pub under-each : (P : A → Type 0) (Q : B → Type 0) → ((a : A) → P a → Q (f a)) → (x : Option A) → Each P x →
       Each Q (under f x)
   unfolding under

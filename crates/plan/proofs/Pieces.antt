@@ -5,7 +5,6 @@ use mathlib.Core.Path.{_≡_, refl, ap, sym, subst, _∙_}
 use mathlib.Core.Logic.{_≢_}
 use mathlib.Core.Bool.{true, false}
 use mathlib.Core.List.{List, [], _∷_, _++_, append-assoc, append-nil}
-use native.Mathlib.Omega.{arith}
 use lib.ListN.{length}
 use Rattle.plan.specs.Plan.{Plan, end, operator, token, block, _then_, cells, labels, letter, print, relabel, open-bracket, close-bracket, open-brace, close-brace}
 use Rattle.plan.specs.Token.{allowed, Allowed}
@@ -37,9 +36,7 @@ use Rattle.plan.proofs.Blanks.{seam, kept, dropped, token-kept}
 use Rattle.plan.proofs.Classes.{class-byte, clash}
 use Rattle.plan.proofs.Plans.{length-labels}
 use Rattle.plan.proofs.Tokens.{allowed-no-brace}
-
-never : {A : Type 0} → _≡_ {A = ℕ} 0 1 → A
-never e = absurd (omega arith)
+use Rattle.plan.proofs.Tests.{never}
 
 module _ {L : Type 0} where
   pub row-append : (ps qs : List (Piece L)) → in-a-row (ps ++ qs) ≡ in-a-row ps ++ in-a-row qs

@@ -2,6 +2,7 @@
 use Prim.Native.Nat.{ℕ, _+_, _<_}
 use mathlib.Core.Path.{_≡_, refl, ap, sym, _∙_}
 use mathlib.Core.Logic.{_↔_, _⊎_, inl, inr, ⊎-elim, ⊎-map}
+use mathlib.Core.Bool.{true}
 use mathlib.Core.Option.{Option, none, some, IsSome}
 use mathlib.Core.List.{List}
 use native.Mathlib.Omega.{arith}
@@ -38,9 +39,10 @@ use Rattle.plan.specs.Rewriting.{
   outer,
   inner,
   next,
+  finished,
 }
-use Rattle.plan.specs.Options.{_else_, under}
-use Rattle.plan.proofs.Options.{Each, else-each, else-left, else-right, else-either, under-each, under-is-some, under-else, under-same, under-square, under-under, some-under, else-front}
+use Rattle.plan.specs.Options.{_else_, is-none, under}
+use Rattle.plan.proofs.Options.{Each, else-each, else-left, else-right, else-either, none-when, under-each, under-is-some, under-none, under-else, under-same, under-square, under-under, some-under, else-front}
 use Rattle.plan.proofs.Plans.{allowed-then, cells-then, changed-then, relabel-changed, then-assoc}
 
 -- The next rewrite is one of the four rules' ..
@@ -119,6 +121,10 @@ module _ {L : Type 0} where
       go : (x : Option (Plan L)) → next p ≡ x → ((q : Plan L) → p ⟶ q → ⊥) → next p ≡ none
       go none h stuck = h
       go (some q) h stuck = absurd (stuck q (next-step p h))
+
+  pub finished-when : (p : Plan L) → (finished p ≡ true) ↔ ((q : Plan L) → p ⟶ q → ⊥)
+  unfolding finished
+  finished-when p = (λ h. finished-iff p .0 (none-when (next p) .0 h), λ stuck. none-when (next p) .1 (finished-iff p .1 stuck))
 
   -- The order: a ready operator of the sequence itself goes before those inside its blocks.
   pub outer-first : (p : Plan L) {q : Plan L} → outer p ≡ some q → next p ≡ some q
@@ -257,6 +263,10 @@ module _ {L M : Type 0} (f : L → M) (g : List ℕ → List ℕ) where
 pub next-relabel : {L M : Type 0} (f : L → M) (p : Plan L) → next (relabel f p) ≡ under (relabel f) (next p)
 next-relabel f p =
     ap next (relabel-changed f p) ∙ next-changed f (λ t. t) p ∙ under-same (changed f (λ t. t)) (relabel f) (λ q. sym (relabel-changed f q)) (next p)
+
+pub finished-relabel : {L M : Type 0} (f : L → M) (p : Plan L) → finished (relabel f p) ≡ finished p
+unfolding finished
+finished-relabel f p = ap is-none (next-relabel f p) ∙ under-none (relabel f) (next p)
 
 -- Every token is inert: whatever its text, the same operator is rewritten, and to the same but for the text.
 module _ {L : Type 0} (g : List ℕ → List ℕ) where

@@ -1,4 +1,4 @@
--- Laws of the tests that the definitions ask: what holds in both arms holds of the whole, and a conjunction's parts.
+-- Laws of the tests that the definitions ask: what holds in both arms holds of the whole, a conjunction's parts, and what cannot be.
 use mathlib.Core.Path.{_≡_, refl}
 use mathlib.Core.Bool.{Bool, true, false, cond, _&&_}
 use Prim.Native.Nat.{ℕ}
@@ -8,9 +8,16 @@ pub cond-cases : {A : Type 0} (P : A → Type 0) (t : Bool) {a b : A} → (t ≡
 cond-cases P true yes-arm no-arm = yes-arm refl
 cond-cases P false yes-arm no-arm = no-arm refl
 
+pub never : {A : Type 0} → _≡_ {A = ℕ} 0 1 → A
+never e = absurd (omega arith)
+
 pub false-is-not-true : {A : Type 0} → false ≡ true → A
-false-is-not-true e = absurd (let z : _≡_ {A = ℕ} 0 1 = cc in omega arith)
+false-is-not-true e = never cc
 
 pub and-true : (a b : Bool) → (a && b) ≡ true → (a ≡ true) × (b ≡ true)
 and-true true b e = (refl, e)
 and-true false b e = false-is-not-true e
+
+pub and-false : (a : Bool) → (a && false) ≡ false
+and-false true = refl
+and-false false = refl

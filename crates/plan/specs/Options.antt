@@ -1,4 +1,5 @@
--- What may be missing: another in its place, and a function used under it.
+-- What may be missing: another in its place, a function used under it, and whether it is.
+use mathlib.Core.Bool.{Bool, true, false}
 use mathlib.Core.Option.{Option, none, some}
 
 infixr 25 _else_
@@ -9,3 +10,7 @@ some x else y = some x
 unfoldable pub under : {A B : Type 0} → (A → B) → Option A → Option B
 under f none = none
 under f (some x) = some (f x)
+
+unfoldable pub is-none : {A : Type 0} → Option A → Bool
+is-none none = true
+is-none (some x) = false

@@ -1,8 +1,9 @@
 -- The four rewrites and their order: document 01, "The four rewrites and their order".
+use mathlib.Core.Bool.{Bool}
 use mathlib.Core.List.{List}
 use mathlib.Core.Option.{Option, none, some}
 use Prim.Native.Nat.{ℕ}
-use Rattle.plan.specs.Options.{_else_, under}
+use Rattle.plan.specs.Options.{_else_, is-none, under}
 use Rattle.plan.specs.Plan.{Operator, op-a, op-b, op-c, op-d, Plan, end, operator, token, block, _then_}
 
 -- `p ⟶ q`: q is p with one ready operator, anywhere in p, rewritten. A copy keeps its labels; after b the outer block
@@ -56,3 +57,7 @@ inner (block l A p) = under (λ B. block l B p) (outer A else inner A) else unde
 -- the next rewrite
 unfoldable pub next : {L : Type 0} → Plan L → Option (Plan L)
 next p = outer p else inner p
+
+-- "A plan with no ready operator at any depth is finished."
+unfoldable pub finished : {L : Type 0} → Plan L → Bool
+finished p = is-none (next p)

@@ -1,5 +1,6 @@
 // What the services answer. The definitions in specs/ speak of these types, so that a promise is one equation.
 ghost use mathlib.Core.Path.{_≡_};
+ghost use Rattle.plan.specs.Leftmost.{takes};
 ghost use Rattle.plan.specs.Numbered.{operator-number, operator-of, class-of};
 ghost use Rattle.plan.specs.Plan.{letter};
 ghost use Rattle.plan.specs.Services.{ending-number, fault-number, fault-place, refusal-number, refusal-place, numbers};
@@ -99,6 +100,18 @@ impl Operator {
             Operator::B => b'b',
             Operator::C => b'c',
             Operator::D => b'd',
+        }
+    }
+
+    // How many blocks it takes: those just before it make it ready.
+    pub fn takes(self) -> u32
+        ensures { λ r. ⌜ r ≡ takes self ⌝ }
+    {
+        match self {
+            Operator::A => 2,
+            Operator::B => 2,
+            Operator::C => 1,
+            Operator::D => 1,
         }
     }
 

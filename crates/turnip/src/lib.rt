@@ -1,9 +1,20 @@
 // The services for programs in C and other languages: include/turnip.h declares and explains these functions. Each asks nothing
 // of its caller, calls its service and tells the answer by five numbers; its contract is the service's (specs/Stored.antt).
 ghost use mathlib.Core.Path.{_≡_};
+ghost use lib.ListN.{getD, set};
 ghost use Rattle.plan.specs.Services.{numbers};
 ghost use Rattle.services.specs.Calls.{Checks, Runs, Tidies};
+ghost use Rattle.filing.specs.Answers.{close-job, edition-1, file, grown, one-entry, roll-numbers};
+ghost use Rattle.roll.specs.Calls.{Lists};
+ghost use Rattle.turnip.specs.Rolls.{AddsStored, RollAnswers, five-of-entry, five-of-roll};
 ghost use Rattle.turnip.specs.Stored.{Answers, five};
+use filing::EntryAnswer;
+use filing::RollAnswer;
+use filing::Tally;
+use keeping::Entered;
+use keeping::done_entry;
+use keeping::file_entry;
+use keeping::with_entry;
 use plan::Answer;
 
 fn store(given: Answer, answer: &mut [u32; 5])
@@ -38,4 +49,87 @@ pub extern "C" fn turnip_run(
     ensures { λ _. ⌜ Answers (λ r. Runs (now (text .entry)) quota (now (memory .entry)) (now (out .entry)) r (now (memory .exit)) (now (out .exit))) (now (answer .exit)) ⌝ }
 {
     store(services::run(text, quota, memory, out), answer);
+}
+
+fn store_roll(given: RollAnswer, answer: &mut [u32; 5])
+    ensures { λ _. ⌜ now (answer .exit) ≡ five-of-roll (roll-numbers given) ⌝ }
+{
+    let told = given.numbers();
+    *answer = [told.number, told.entries, told.filed, told.done, told.place];
+}
+
+#[no_mangle]
+pub extern "C" fn turnip_roll_read(roll: &[u8], list: &mut [u32], answer: &mut [u32; 5])
+    ensures { λ _. ⌜ RollAnswers (λ r. Lists (now (roll .entry)) (now (list .entry)) r (now (list .exit))) (now (answer .exit)) ⌝ }
+{
+    store_roll(roll::read(roll, list), answer);
+}
+
+fn store_entry(given: EntryAnswer, answer: &mut [u32; 5])
+    ensures { λ _. ⌜ now (answer .exit) ≡ five-of-entry given ⌝ }
+{
+    match given {
+        EntryAnswer::TooLong => *answer = [11, 0, 0, 0, 0],
+        EntryAnswer::NoEntry => *answer = [39, 0, 0, 0, 0],
+        EntryAnswer::Found {
+            job,
+            job_bytes,
+            text,
+            text_bytes,
+        } => *answer = [3, job, job_bytes, text, text_bytes],
+    }
+}
+
+#[no_mangle]
+pub extern "C" fn turnip_roll_entry(roll: &[u8], at: usize, answer: &mut [u32; 5])
+    ensures { λ _. ⌜ now (answer .exit) ≡ five-of-entry (one-entry (now (roll .entry)) at) ⌝ }
+{
+    store_entry(roll::entry(roll, at), answer);
+}
+
+// The array for a tally has jobs filed, then jobs done.
+fn store_entered(entered: Entered, tally: &mut [u32; 2], answer: &mut [u32; 5])
+    ensures counts { λ _. ⌜ now (tally .exit) ≡ set (set (now (tally .entry)) 0 (grown (entered .filed) (getD (now (tally .entry)) 0 0))) 1 (grown (entered .done) (getD (now (tally .entry)) 1 0)) ⌝ }
+    ensures told { λ _. ⌜ now (answer .exit) ≡ five-of-roll (roll-numbers (entered .answer)) ⌝ }
+{
+    let counted = with_entry(
+        Tally {
+            filed: tally[0],
+            done: tally[1],
+        },
+        entered,
+    );
+    tally[0] = counted.filed;
+    tally[1] = counted.done;
+    let given = entered.answer;
+    store_roll(given, answer);
+}
+
+#[no_mangle]
+pub extern "C" fn turnip_roll_file(
+    roll: &mut [u8],
+    used: usize,
+    job: &[u8],
+    text: &[u8],
+    tally: &mut [u32; 2],
+    answer: &mut [u32; 5],
+)
+    ensures { λ _. ⌜ AddsStored (file edition-1 (now (roll .entry)) used (now (job .entry)) (now (text .entry))) (now (tally .entry)) (now (roll .exit)) (now (tally .exit)) (now (answer .exit)) ⌝ }
+{
+    let entered = file_entry(roll, used, job, text);
+    store_entered(entered, tally, answer);
+}
+
+#[no_mangle]
+pub extern "C" fn turnip_roll_done(
+    roll: &mut [u8],
+    used: usize,
+    job: &[u8],
+    tally: &mut [u32; 2],
+    answer: &mut [u32; 5],
+)
+    ensures { λ _. ⌜ AddsStored (close-job edition-1 (now (roll .entry)) used (now (job .entry))) (now (tally .entry)) (now (roll .exit)) (now (tally .exit)) (now (answer .exit)) ⌝ }
+{
+    let entered = done_entry(roll, used, job);
+    store_entered(entered, tally, answer);
 }

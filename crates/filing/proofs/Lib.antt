@@ -1,0 +1,6 @@
+pub mod Adding
+pub mod Format
+pub mod NextEntry
+pub mod Readback
+pub mod Same
+pub mod Sound

@@ -1,0 +1,32 @@
+-- Of entries that stand one behind the other up to a place, the one at the front; where they end there is none.
+use Prim.Native.Nat.{ℕ, _+_, _≤_}
+use mathlib.Core.Path.{_≡_, refl}
+use mathlib.Core.Logic.{_≢_}
+use mathlib.Core.List.{List, [], _∷_}
+use native.Mathlib.Omega.{arith}
+use lib.ListN.{length, drop}
+use Rattle.stored.specs.Counted.{FRONT}
+use Rattle.filing.specs.Format.{Entry, entry}
+use Rattle.filing.specs.Standing.{EntriesStand}
+use Rattle.filing.proofs.Format.{stands-within}
+
+pub record NextEntry (bytes : List ℕ) (at upto : ℕ) (come : List Entry) : Type 0 where
+  pub first : Entry
+  pub others : List Entry
+  pub parts : come ≡ first ∷ others
+  pub place : first .place ≡ at
+  pub next : ℕ
+  pub whole : entry (drop at bytes) ≡ FRONT (first .parts) (drop next bytes)
+  pub low : at + 4 ≤ next
+  pub high : next ≤ length bytes
+  pub stand : EntriesStand bytes next others upto
+
+module _ (bytes : List ℕ) (at upto : ℕ) where
+  pub next-entry : at ≢ upto → (come : List Entry) → EntriesStand bytes at come upto → NextEntry bytes at upto come
+  next-entry more [] s = absurd (more s)
+  next-entry more (e ∷ es) (p, (next, whole, low, high, s)) =
+      record { first = e; others = es; parts = refl; place = p; next = next; whole = whole; low = low; high = high; stand = s }
+
+  pub no-next-entry : at ≡ upto → (come : List Entry) → EntriesStand bytes at come upto → come ≡ []
+  no-next-entry e [] s = refl
+  no-next-entry e (f ∷ fs) (p, (next, whole, low, high, more)) = absurd (omega (arith, e, low, stands-within bytes next upto fs more))

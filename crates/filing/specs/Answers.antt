@@ -1,0 +1,187 @@
+-- What the services of the roll answer and leave, for every input.
+use Prim.Native.Nat.{ℕ, _+_, min}
+use mathlib.Core.Bool.{Bool, false, cond}
+use mathlib.Core.Option.{Option, none, some}
+use mathlib.Core.List.{List, [], _∷_, _++_, map, reverse}
+use lib.Dec.{eqb, leb, ltb}
+use lib.ListN.{length, take, drop}
+use Rattle.plan.specs.Options.{_else_}
+use Rattle.plan.specs.Services.{Limits, standard}
+use Rattle.pieces.specs.Written.{put-at}
+use Rattle.stored.specs.Counted.{AtFront, CUT, FRONT, four-bytes, with-count}
+use Rattle.filing.specs.declared.RollAnswer.{RollAnswer}
+use Rattle.filing.specs.declared.RollAnswer.the-variants.{Listed, Refused}
+use Rattle.filing.specs.declared.RollNumbers.{RollNumbers}
+use Rattle.filing.specs.declared.RollRefusal.{RollRefusal}
+use Rattle.filing.specs.declared.RollRefusal.the-variants.{TooLong, BadRoll, BadJob, BadText, AlreadyDone, Unfiled, Unfinished, NoRoom, MoreEntries}
+use Rattle.filing.specs.declared.EntryAnswer.{EntryAnswer}
+use Rattle.filing.specs.declared.EntryAnswer.the-variants.{TooLong as EntryTooLong, NoEntry, Found as FoundEntry}
+use Rattle.filing.specs.Format.{Entry, Listing, entry, roll}
+use Rattle.filing.specs.Rules.{JobStanding, UNFILED, FILED-AT, DONE-AT, broken, counts-done, counts-filed, done, filed, is-finished, is-job, is-printed, says, standing}
+
+abbrev pub roll-refusal-number : RollRefusal → ℕ
+roll-refusal-number TooLong = 11
+roll-refusal-number (BadRoll place) = 31
+roll-refusal-number BadJob = 32
+roll-refusal-number BadText = 33
+roll-refusal-number (AlreadyDone place) = 34
+roll-refusal-number Unfiled = 35
+roll-refusal-number (Unfinished place) = 36
+roll-refusal-number (NoRoom bytes) = 37
+roll-refusal-number (MoreEntries entries) = 38
+
+abbrev pub roll-refusal-place : RollRefusal → ℕ
+roll-refusal-place TooLong = 0
+roll-refusal-place (BadRoll place) = place
+roll-refusal-place BadJob = 0
+roll-refusal-place BadText = 0
+roll-refusal-place (AlreadyDone place) = place
+roll-refusal-place Unfiled = 0
+roll-refusal-place (Unfinished place) = place
+roll-refusal-place (NoRoom bytes) = bytes
+roll-refusal-place (MoreEntries entries) = entries
+
+abbrev pub roll-numbers : RollAnswer → RollNumbers
+roll-numbers (Listed entries filed done end) = record { number = 3; entries = entries; filed = filed; done = done; place = end }
+roll-numbers (Refused r) = record { number = roll-refusal-number r; entries = 0; filed = 0; done = 0; place = roll-refusal-place r }
+
+-- an edition of the roll: its first byte, and the limits of the plans in it
+pub record Edition : Type 0 where
+  pub first : ℕ
+  pub limits : Limits
+
+abbrev pub edition-1 : Edition
+edition-1 = record { first = 1; limits = standard }
+
+-- no roll and no buffer is longer
+abbrev pub longest : ℕ
+longest = 4294967295
+
+-- a roll that reads as these entries, up to their end; or is refused
+pub data Judged : Type 0 where
+  READS : (entries : List Entry) → (end : ℕ) → Judged
+  REFUSES : RollRefusal → Judged
+
+unfoldable pub unbroken : Option ℕ → Listing → Judged
+unbroken none l = READS (l .entries) (l .end)
+unbroken (some place) l = REFUSES (BadRoll place)
+
+unfoldable pub by-rules : Limits → Option Listing → Judged
+by-rules lim none = REFUSES (BadRoll 0)
+by-rules lim (some l) = unbroken (broken lim [] (l .entries)) l
+
+unfoldable pub judged : Edition → List ℕ → Judged
+judged ed bytes = cond (ltb longest (length bytes)) (REFUSES TooLong) (by-rules (ed .limits) (roll (ed .first) bytes))
+
+-- the answer for entries that read
+abbrev pub listed-as : (past : List Entry) → (end : ℕ) → RollAnswer
+listed-as past end = Listed (length past) (filed past) (done past) end
+
+-- Reading: the places go first into the list, and its other numbers are as they were; or the list is too short.
+pub record Read : Type 0 where
+  pub answer : RollAnswer
+  pub list : List ℕ
+
+unfoldable pub places : List Entry → List ℕ
+places es = map (λ (e : Entry). e .place) es
+
+unfoldable pub fill : Judged → List ℕ → Read
+fill (REFUSES r) list = record { answer = Refused r; list = list }
+fill (READS es end) list =
+    cond (leb (length es) (length list)) (record { answer = listed-as (reverse es) end; list = places es ++ drop (length es) list })
+    (record { answer = Refused (MoreEntries (length es)); list = list })
+
+unfoldable pub read-roll : Edition → (bytes list : List ℕ) → Read
+read-roll ed bytes list = fill (judged ed bytes) list
+
+-- One entry: where its job number and its text stand, and how long they are; nothing but its own bytes is looked at.
+unfoldable pub entry-told : (at : ℕ) → AtFront (List (List ℕ)) → EntryAnswer
+entry-told at CUT = NoEntry
+entry-told at (FRONT [] rest) = NoEntry
+entry-told at (FRONT (job ∷ []) rest) = FoundEntry (at + 8) (length job) 0 0
+entry-told at (FRONT (job ∷ text ∷ []) rest) = FoundEntry (at + 8) (length job) (at + 12 + length job) (length text)
+entry-told at (FRONT (a ∷ b ∷ c ∷ more) rest) = NoEntry
+
+unfoldable pub one-entry : (bytes : List ℕ) → (at : ℕ) → EntryAnswer
+one-entry bytes at = cond (ltb longest (length bytes)) EntryTooLong (entry-told at (entry (drop at bytes)))
+
+-- Adding: what is wrong with a new entry, but for room.
+unfoldable pub after-done : JobStanding → Option RollRefusal
+after-done UNFILED = none
+after-done (FILED-AT place text) = none
+after-done (DONE-AT place) = some (AlreadyDone place)
+
+unfoldable pub filing-fault : Limits → (past : List Entry) → (job text : List ℕ) → Option RollRefusal
+filing-fault lim past job text =
+    cond (is-job job) (cond (is-printed lim text) (after-done (standing job past)) (some BadText)) (some BadJob)
+
+unfoldable pub unfinished : Limits → JobStanding → Option RollRefusal
+unfinished lim UNFILED = some Unfiled
+unfinished lim (FILED-AT place text) = cond (is-finished lim text) none (some (Unfinished place))
+unfinished lim (DONE-AT place) = some (AlreadyDone place)
+
+unfoldable pub closing-fault : Limits → (past : List Entry) → (job : List ℕ) → Option RollRefusal
+closing-fault lim past job = cond (is-job job) (unfinished lim (standing job past)) (some BadJob)
+
+-- The new entry goes to the end, behind the first byte where there was none.
+unfoldable pub runs : List (List ℕ) → List ℕ
+runs [] = []
+runs (s ∷ ss) = with-count s ++ runs ss
+
+unfoldable pub entry-bytes : List (List ℕ) → List ℕ
+entry-bytes parts = four-bytes (length parts) ++ runs parts
+
+unfoldable pub new-bytes : Edition → (end : ℕ) → List (List ℕ) → List ℕ
+new-bytes ed end parts = cond (eqb end 0) (ed .first ∷ entry-bytes parts) (entry-bytes parts)
+
+abbrev pub new-entry : (end : ℕ) → List (List ℕ) → Entry
+new-entry end parts = record { place = cond (eqb end 0) 1 end; parts = parts }
+
+-- what adding answers, what the buffer then holds, and whether the tally's two counts grow
+pub record Added : Type 0 where
+  pub answer : RollAnswer
+  pub buffer : List ℕ
+  pub more-filed : Bool
+  pub more-done : Bool
+
+abbrev pub not-added : List ℕ → RollRefusal → Added
+not-added buffer r = record { answer = Refused r; buffer = buffer; more-filed = false; more-done = false }
+
+abbrev pub made : Edition → (buffer : List ℕ) → (past : List Entry) → (end : ℕ) → (parts : List (List ℕ)) → Added
+made ed buffer past end parts =
+    record {
+      answer = listed-as (new-entry end parts ∷ past) (end + length (new-bytes ed end parts));
+      buffer = put-at buffer end (new-bytes ed end parts);
+      more-filed = counts-filed past (says parts);
+      more-done = counts-done (says parts);
+    }
+
+unfoldable pub no-room : (room end : ℕ) → Option RollRefusal
+no-room room end = cond (leb end room) none (some (NoRoom (min end longest)))
+
+unfoldable pub unless : Option RollRefusal → (buffer : List ℕ) → Added → Added
+unless none buffer added = added
+unless (some r) buffer added = not-added buffer r
+
+-- a roll that does not read is refused first, and lack of room last
+unfoldable pub add-to : Edition → (buffer : List ℕ) → Judged → (fault : List Entry → Option RollRefusal) → (parts : List (List ℕ)) → Added
+add-to ed buffer (REFUSES r) fault parts = not-added buffer r
+add-to ed buffer (READS es end) fault parts =
+    let refusal = fault (reverse es) else no-room (length buffer) (end + length (new-bytes ed end parts)) in
+    unless refusal buffer (made ed buffer (reverse es) end parts)
+
+-- of the buffer only the bytes in use are a roll; a longer use counts as all of it, and a buffer that is too long is refused
+unfoldable pub in-use : Edition → (buffer : List ℕ) → (used : ℕ) → Judged
+in-use ed buffer used = cond (ltb longest (length buffer)) (REFUSES TooLong) (judged ed (take used buffer))
+
+unfoldable pub file : Edition → (buffer : List ℕ) → (used : ℕ) → (job text : List ℕ) → Added
+file ed buffer used job text =
+    add-to ed buffer (in-use ed buffer used) (λ past. filing-fault (ed .limits) past job text) (job ∷ text ∷ [])
+
+unfoldable pub close-job : Edition → (buffer : List ℕ) → (used : ℕ) → (job : List ℕ) → Added
+close-job ed buffer used job =
+    add-to ed buffer (in-use ed buffer used) (λ past. closing-fault (ed .limits) past job) (job ∷ [])
+
+-- a count of the tally, which stops at the largest number
+unfoldable pub grown : Bool → ℕ → ℕ
+grown more n = cond more (min (n + 1) longest) n

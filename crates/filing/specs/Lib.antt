@@ -1,0 +1,4 @@
+pub mod Answers
+pub mod Format
+pub mod Rules
+pub mod Standing

@@ -1,0 +1,116 @@
+-- What the entries of a roll must obey, and what they add up to. Nothing here looks at the roll's bytes. Earlier entries are given the
+-- newest first.
+use Prim.Native.Nat.{ℕ, suc}
+use mathlib.Core.Bool.{Bool, true, false, cond, _&&_}
+use mathlib.Core.Option.{Option, none, some}
+use mathlib.Core.List.{List, [], _∷_}
+use lib.Dec.{eqb, leb, ltb}
+use lib.ListN.{length}
+use Rattle.plan.specs.Plan.{print}
+use Rattle.plan.specs.Reading.{Reading, REFUSED, PLAN}
+use Rattle.plan.specs.Rewriting.{finished}
+use Rattle.plan.specs.Services.{Limits, accept}
+use Rattle.filing.specs.Format.{Entry}
+
+-- FILED has two sections, the job number and the text; DONE has one, the job number
+pub data EntrySays : Type 0 where
+  FILED : (job text : List ℕ) → EntrySays
+  DONE : (job : List ℕ) → EntrySays
+  NEITHER : EntrySays
+
+unfoldable pub says : List (List ℕ) → EntrySays
+says [] = NEITHER
+says (job ∷ []) = DONE job
+says (job ∷ text ∷ []) = FILED job text
+says (a ∷ b ∷ c ∷ more) = NEITHER
+
+-- byte for byte the same
+unfoldable pub same : List ℕ → List ℕ → Bool
+same [] [] = true
+same [] (y ∷ ys) = false
+same (x ∷ xs) [] = false
+same (x ∷ xs) (y ∷ ys) = eqb x y && same xs ys
+
+-- a job number: 1 to 10 bytes `0` to `9`
+unfoldable pub digits : List ℕ → Bool
+digits [] = true
+digits (b ∷ bs) = (leb 48 b && leb b 57) && digits bs
+
+unfoldable pub is-job : List ℕ → Bool
+is-job job = (ltb 0 (length job) && leb (length job) 10) && digits job
+
+-- the printed text of a plan that CHECK accepts, and one that has no ready operator
+unfoldable pub printed-as : List ℕ → Reading → Bool
+printed-as text (REFUSED r) = false
+printed-as text (PLAN p) = same text (print p)
+
+unfoldable pub is-printed : Limits → List ℕ → Bool
+is-printed lim text = printed-as text (accept lim (lim .cells) text)
+
+unfoldable pub finished-as : Reading → Bool
+finished-as (REFUSED r) = false
+finished-as (PLAN p) = finished p
+
+unfoldable pub is-finished : Limits → List ℕ → Bool
+is-finished lim text = finished-as (accept lim (lim .cells) text)
+
+-- how a job stands: no FILED, or its last FILED's place and text, or its DONE's place
+pub data JobStanding : Type 0 where
+  UNFILED : JobStanding
+  FILED-AT : (place : ℕ) → (text : List ℕ) → JobStanding
+  DONE-AT : (place : ℕ) → JobStanding
+
+unfoldable pub newest : (job : List ℕ) → (place : ℕ) → EntrySays → JobStanding → JobStanding
+newest job place (FILED j t) older = cond (same j job) (FILED-AT place t) older
+newest job place (DONE j) older = cond (same j job) (DONE-AT place) older
+newest job place NEITHER older = older
+
+unfoldable pub standing : (job : List ℕ) → (past : List Entry) → JobStanding
+standing job [] = UNFILED
+standing job (e ∷ past) = newest job (e .place) (says (e .parts)) (standing job past)
+
+-- both are refused after that job's DONE
+unfoldable pub may-file : JobStanding → Bool
+may-file UNFILED = true
+may-file (FILED-AT place text) = true
+may-file (DONE-AT place) = false
+
+-- DONE is refused unless that job's last FILED text has no ready operator
+unfoldable pub may-close : Limits → JobStanding → Bool
+may-close lim UNFILED = false
+may-close lim (FILED-AT place text) = is-finished lim text
+may-close lim (DONE-AT place) = false
+
+unfoldable pub obeys : Limits → (past : List Entry) → EntrySays → Bool
+obeys lim past (FILED job text) = (is-job job && is-printed lim text) && may-file (standing job past)
+obeys lim past (DONE job) = is-job job && may-close lim (standing job past)
+obeys lim past NEITHER = false
+
+-- the place of the first entry that breaks a rule
+unfoldable pub broken : Limits → (past es : List Entry) → Option ℕ
+broken lim past [] = none
+broken lim past (e ∷ es) = cond (obeys lim past (says (e .parts))) (broken lim (e ∷ past) es) (some (e .place))
+
+-- jobs with a FILED entry, each once; and jobs with a DONE
+unfoldable pub is-new : JobStanding → Bool
+is-new UNFILED = true
+is-new (FILED-AT place text) = false
+is-new (DONE-AT place) = false
+
+unfoldable pub counts-filed : (past : List Entry) → EntrySays → Bool
+counts-filed past (FILED job text) = is-new (standing job past)
+counts-filed past (DONE job) = false
+counts-filed past NEITHER = false
+
+unfoldable pub counts-done : EntrySays → Bool
+counts-done (FILED job text) = false
+counts-done (DONE job) = true
+counts-done NEITHER = false
+
+unfoldable pub filed : (past : List Entry) → ℕ
+filed [] = 0
+filed (e ∷ past) = cond (counts-filed past (says (e .parts))) (suc (filed past)) (filed past)
+
+unfoldable pub done : (past : List Entry) → ℕ
+done [] = 0
+done (e ∷ past) = cond (counts-done (says (e .parts))) (suc (done past)) (done past)

@@ -1,0 +1,124 @@
+// What the services of the roll answer. The definitions in specs/ speak of these types, so that a promise is one equation.
+ghost use mathlib.Core.Path.{_≡_};
+ghost use Rattle.filing.specs.Answers.{roll-numbers, roll-refusal-number, roll-refusal-place};
+
+// No roll and no buffer is longer.
+pub const LONGEST: usize = 4_294_967_295;
+
+// The first byte of a roll.
+pub const FIRST: u8 = 1;
+
+// Why a call over a roll is refused, with the place that goes with it.
+pub enum RollRefusal {
+    TooLong,
+    BadRoll(u32),
+    BadJob,
+    BadText,
+    AlreadyDone(u32),
+    Unfiled,
+    Unfinished(u32),
+    // The bytes needed.
+    NoRoom(u32),
+    // The entries needed.
+    MoreEntries(u32),
+}
+
+// What reading a roll and adding to it answer. A refusal counts nothing.
+pub enum RollAnswer {
+    Listed {
+        entries: u32,
+        filed: u32,
+        done: u32,
+        end: u32,
+    },
+    Refused(RollRefusal),
+}
+
+// The five numbers of such an answer.
+pub struct RollNumbers {
+    pub number: u32,
+    pub entries: u32,
+    pub filed: u32,
+    pub done: u32,
+    pub place: u32,
+}
+
+// What asking for one entry answers: where its job number and its text stand in the roll, and their bytes.
+pub enum EntryAnswer {
+    TooLong,
+    NoEntry,
+    Found {
+        job: u32,
+        job_bytes: u32,
+        text: u32,
+        text_bytes: u32,
+    },
+}
+
+// A running tally: jobs filed and jobs done.
+pub struct Tally {
+    pub filed: u32,
+    pub done: u32,
+}
+
+impl RollRefusal {
+    fn number(self) -> u32
+        ensures { λ r. ⌜ r ≡ roll-refusal-number self ⌝ }
+    {
+        match self {
+            RollRefusal::TooLong => 11,
+            RollRefusal::BadRoll(_) => 31,
+            RollRefusal::BadJob => 32,
+            RollRefusal::BadText => 33,
+            RollRefusal::AlreadyDone(_) => 34,
+            RollRefusal::Unfiled => 35,
+            RollRefusal::Unfinished(_) => 36,
+            RollRefusal::NoRoom(_) => 37,
+            RollRefusal::MoreEntries(_) => 38,
+        }
+    }
+
+    fn place(self) -> u32
+        ensures { λ r. ⌜ r ≡ roll-refusal-place self ⌝ }
+    {
+        match self {
+            RollRefusal::TooLong => 0,
+            RollRefusal::BadRoll(place) => place,
+            RollRefusal::BadJob => 0,
+            RollRefusal::BadText => 0,
+            RollRefusal::AlreadyDone(place) => place,
+            RollRefusal::Unfiled => 0,
+            RollRefusal::Unfinished(place) => place,
+            RollRefusal::NoRoom(bytes) => bytes,
+            RollRefusal::MoreEntries(entries) => entries,
+        }
+    }
+}
+
+impl RollAnswer {
+    pub fn numbers(self) -> RollNumbers
+        ensures { λ r. ⌜ r ≡ roll-numbers self ⌝ }
+    {
+        match self {
+            RollAnswer::Listed {
+                entries,
+                filed,
+                done,
+                end,
+            } => RollNumbers {
+                number: 3,
+                entries,
+                filed,
+                done,
+                place: end,
+            },
+            RollAnswer::Refused(refusal) => RollNumbers {
+                number: refusal.number(),
+                entries: 0,
+                filed: 0,
+                done: 0,
+                place: refusal.place(),
+            },
+        }
+    }
+}

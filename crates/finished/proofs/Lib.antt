@@ -1,0 +1,4 @@
+pub mod BlockSoFar
+pub mod FinishedSoFar
+pub mod Stirring
+pub mod Told

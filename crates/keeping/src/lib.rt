@@ -1,0 +1,273 @@
+// Adding an entry to a roll: weighed, and written at the end where there is room.
+ghost use mathlib.Core.Path.{_≡_};
+ghost use mathlib.Core.Bool.{false};
+ghost use Prim.Native.Nat.{_+_, _≤_, min};
+ghost use lib.ListN.{length};
+ghost use Rattle.plan.specs.Services.{standard};
+ghost use Rattle.filing.specs.Answers.{close-job, closing-fault, edition-1, file, filing-fault, grown, in-use, longest};
+ghost use Rattle.adding.specs.Adding.{opening};
+ghost use Rattle.filing.specs.Rules.{is-new, standing};
+ghost use Rattle.keeping.specs.Keeping.{EnteredAs, JudgedWeighed, RollWeighed, never-new, refused-entry};
+ghost use Rattle.keeping.specs.Calls.{Adds};
+use adding::Closing;
+use adding::Filing;
+use adding::put_done;
+use adding::put_filed;
+use adding::weigh_closing;
+use adding::weigh_filing;
+use filing::LONGEST;
+use filing::RollAnswer;
+use filing::RollRefusal;
+use filing::Tally;
+use roll::LookedOver;
+use roll::look_over;
+use roll::one_more;
+
+// Whether an entry may be added, but for room: what the roll comes to and where it ends, and whether the job is new in it.
+pub enum Weighing {
+    Refused(RollRefusal),
+    Fine {
+        entries: u32,
+        filed: u32,
+        done: u32,
+        end: u32,
+        new: bool,
+    },
+}
+
+fn weigh_roll_filed(roll: &[u8], job: &[u8], text: &[u8]) -> Weighing
+    ensures { λ r. ⌜ RollWeighed (now (roll .entry)) (λ past. filing-fault standard past (now (job .entry)) (now (text .entry))) (λ past. is-new (standing (now (job .entry)) past)) r ⌝ }
+{
+    match look_over(roll) {
+        LookedOver::Refused(refusal) => Weighing::Refused(refusal),
+        LookedOver::Reads {
+            entries,
+            filed,
+            done,
+            end,
+        } => match weigh_filing(roll, end, job, text) {
+            Filing::Refused(refusal) => Weighing::Refused(refusal),
+            Filing::Fine { new } => Weighing::Fine {
+                entries,
+                filed,
+                done,
+                end,
+                new,
+            },
+        },
+    }
+}
+
+fn weigh_roll_done(roll: &[u8], job: &[u8]) -> Weighing
+    ensures { λ r. ⌜ RollWeighed (now (roll .entry)) (λ past. closing-fault standard past (now (job .entry))) never-new r ⌝ }
+{
+    match look_over(roll) {
+        LookedOver::Refused(refusal) => Weighing::Refused(refusal),
+        LookedOver::Reads {
+            entries,
+            filed,
+            done,
+            end,
+        } => match weigh_closing(roll, end, job) {
+            Closing::Refused(refusal) => Weighing::Refused(refusal),
+            Closing::Fine => Weighing::Fine {
+                entries,
+                filed,
+                done,
+                end,
+                new: false,
+            },
+        },
+    }
+}
+
+fn least(a: usize, b: usize) -> usize
+    ensures { λ r. ⌜ r ≡ min a b ⌝ }
+{
+    if a < b {
+        return a;
+    }
+    b
+}
+
+// Of a buffer only the bytes in use are a roll; a longer use counts as all of it.
+fn weigh_filed(buffer: &[u8], used: usize, job: &[u8], text: &[u8]) -> Weighing
+    ensures { λ r. ⌜ JudgedWeighed (in-use edition-1 (now (buffer .entry)) used) (λ past. filing-fault standard past (now (job .entry)) (now (text .entry))) (λ past. is-new (standing (now (job .entry)) past)) (length (now (buffer .entry))) r ⌝ }
+{
+    if LONGEST < buffer.len() {
+        return Weighing::Refused(RollRefusal::TooLong);
+    }
+    let end = least(used, buffer.len());
+    weigh_roll_filed(&buffer[0..end], job, text)
+}
+
+fn weigh_done(buffer: &[u8], used: usize, job: &[u8]) -> Weighing
+    ensures { λ r. ⌜ JudgedWeighed (in-use edition-1 (now (buffer .entry)) used) (λ past. closing-fault standard past (now (job .entry))) never-new (length (now (buffer .entry))) r ⌝ }
+{
+    if LONGEST < buffer.len() {
+        return Weighing::Refused(RollRefusal::TooLong);
+    }
+    let end = least(used, buffer.len());
+    weigh_roll_done(&buffer[0..end], job)
+}
+
+// Where a roll ends with so many bytes more, and its first byte where it had none.
+fn new_end(end: u32, bytes: usize) -> usize
+    requires { ⌜ bytes ≤ longest ⌝ }
+    ensures { λ r. ⌜ r ≡ end + (length (opening end) + bytes) ⌝ }
+{
+    let at = end as usize;
+    if end == 0 {
+        return at + 1 + bytes;
+    }
+    at + bytes
+}
+
+fn capped(bytes: usize) -> u32
+    ensures { λ r. ⌜ r ≡ min bytes longest ⌝ }
+{
+    if bytes < LONGEST {
+        return bytes as u32;
+    }
+    4_294_967_295
+}
+
+// What adding answers, and whether the tally's two counts grow by it.
+pub struct Entered {
+    pub answer: RollAnswer,
+    pub filed: bool,
+    pub done: bool,
+}
+
+fn not_entered(refusal: RollRefusal) -> Entered
+    ensures { λ r. ⌜ r ≡ refused-entry refusal ⌝ }
+{
+    Entered {
+        answer: RollAnswer::Refused(refusal),
+        filed: false,
+        done: false,
+    }
+}
+
+// Adds a FILED.
+pub fn file_entry(buffer: &mut [u8], used: usize, job: &[u8], text: &[u8]) -> Entered
+    ensures { λ r. ⌜ EnteredAs (file edition-1 (now (buffer .entry)) used (now (job .entry)) (now (text .entry))) r (now (buffer .exit)) ⌝ }
+{
+    match weigh_filed(buffer, used, job, text) {
+        Weighing::Refused(refusal) => not_entered(refusal),
+        Weighing::Fine {
+            entries,
+            filed,
+            done,
+            end,
+            new,
+        } => {
+            let last = new_end(end, 12 + job.len() + text.len());
+            if buffer.len() < last {
+                return not_entered(RollRefusal::NoRoom(capped(last)));
+            }
+            put_filed(buffer, end as usize, job, text);
+            Entered {
+                answer: RollAnswer::Listed {
+                    entries: entries + 1,
+                    filed: one_more(filed, new),
+                    done,
+                    end: last as u32,
+                },
+                filed: new,
+                done: false,
+            }
+        }
+    }
+}
+
+// Adds a DONE.
+pub fn done_entry(buffer: &mut [u8], used: usize, job: &[u8]) -> Entered
+    ensures { λ r. ⌜ EnteredAs (close-job edition-1 (now (buffer .entry)) used (now (job .entry))) r (now (buffer .exit)) ⌝ }
+{
+    match weigh_done(buffer, used, job) {
+        Weighing::Refused(refusal) => not_entered(refusal),
+        Weighing::Fine {
+            entries,
+            filed,
+            done,
+            end,
+            new,
+        } => {
+            let last = new_end(end, 8 + job.len());
+            if buffer.len() < last {
+                return not_entered(RollRefusal::NoRoom(capped(last)));
+            }
+            put_done(buffer, end as usize, job);
+            Entered {
+                answer: RollAnswer::Listed {
+                    entries: entries + 1,
+                    filed,
+                    done: done + 1,
+                    end: last as u32,
+                },
+                filed: false,
+                done: true,
+            }
+        }
+    }
+}
+
+// One more where it counts; the largest number stays.
+fn counted(n: u32, counts: bool) -> u32
+    ensures { λ r. ⌜ r ≡ grown counts n ⌝ }
+{
+    if counts {
+        if n < 4_294_967_295 {
+            return n + 1;
+        }
+        return n;
+    }
+    n
+}
+
+// The next two take values, so that of the tally lent `count` only reads and stores it whole.
+pub fn with_entry(tally: Tally, entered: Entered) -> Tally
+    ensures { λ r. ⌜ (r .filed ≡ grown (entered .filed) (tally .filed)) × (r .done ≡ grown (entered .done) (tally .done)) ⌝ }
+{
+    Tally {
+        filed: counted(tally.filed, entered.filed),
+        done: counted(tally.done, entered.done),
+    }
+}
+
+fn answer_of(entered: Entered) -> RollAnswer
+    ensures { λ r. ⌜ r ≡ entered .answer ⌝ }
+{
+    entered.answer
+}
+
+// Counts in the tally lent what was added, and answers it.
+fn count(tally: &mut Tally, entered: Entered) -> RollAnswer
+    ensures { λ r. ⌜ (r ≡ entered .answer) × (now (tally .exit) .filed ≡ grown (entered .filed) (now (tally .entry) .filed)) × (now (tally .exit) .done ≡ grown (entered .done) (now (tally .entry) .done)) ⌝ }
+{
+    *tally = with_entry(*tally, entered);
+    answer_of(entered)
+}
+
+// Adds a FILED to the roll in the first `used` bytes of the buffer, and counts it in the tally lent.
+pub fn file(
+    tally: &mut Tally,
+    buffer: &mut [u8],
+    used: usize,
+    job: &[u8],
+    text: &[u8],
+) -> RollAnswer
+    ensures { λ r. ⌜ Adds (file edition-1 (now (buffer .entry)) used (now (job .entry)) (now (text .entry))) (now (tally .entry)) r (now (buffer .exit)) (now (tally .exit)) ⌝ }
+{
+    let entered = file_entry(buffer, used, job, text);
+    count(tally, entered)
+}
+
+// Adds a DONE to the roll in the first `used` bytes of the buffer, and counts it in the tally lent.
+pub fn close_job(tally: &mut Tally, buffer: &mut [u8], used: usize, job: &[u8]) -> RollAnswer
+    ensures { λ r. ⌜ Adds (close-job edition-1 (now (buffer .entry)) used (now (job .entry))) (now (tally .entry)) r (now (buffer .exit)) (now (tally .exit)) ⌝ }
+{
+    let entered = done_entry(buffer, used, job);
+    count(tally, entered)
+}

@@ -1,0 +1,4 @@
+pub mod Filling
+pub mod Judging
+pub mod OneEntry
+pub mod Reading

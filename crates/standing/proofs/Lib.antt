@@ -1,0 +1,4 @@
+pub mod Jobs
+pub mod LookedBack
+pub mod Looking
+pub mod Texts

@@ -1,0 +1,5 @@
+pub mod Counted
+pub mod Exact
+pub mod Places
+pub mod Readback
+pub mod Written

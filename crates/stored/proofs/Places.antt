@@ -1,0 +1,104 @@
+-- What the code finds at a place is what stands at the front of the bytes from there on.
+use Prim.Native.Nat.{ℕ, _+_, _-_, _≤_, _<_}
+use mathlib.Core.Path.{_≡_, refl, ap, ap₂, sym, _∙_}
+use mathlib.Core.List.{List}
+use native.Mathlib.Omega.{arith}
+use borrow.Author.Tests.{le-leb, lt-leb}
+use lib.ListN.{length, take, drop, getD, length-drop}
+use lib.Seq.{drop-drop, length-take-le}
+use Rattle.stored.specs.Counted.{AtFront, CUT, FRONT, counted, four, number, so-many, then-read}
+use Rattle.stored.specs.Places.{number-at, number-told, run-at, run-told}
+use Rattle.stored.specs.declared.NumberAt.the-variants.{Cut as NumberCut, Whole as WholeNumber}
+use Rattle.stored.specs.declared.RunAt.the-variants.{Cut as RunCut, Whole as WholeRun}
+use Rattle.stored.proofs.Counted.{number-cut, number-front, number-whole, so-many-parts, then-parts}
+
+module _ (bytes : List ℕ) (at : ℕ) where
+  pub number-at-cut : length bytes < at + 4 → NumberCut ≡ number-at bytes at
+  unfolding number-at
+  number-at-cut h = ap number-told (sym (number-cut bytes at h))
+
+  pub number-at-whole : at + 4 ≤ length bytes → (n : ℕ)
+      → n ≡ four (getD bytes at 0) (getD bytes (at + 1) 0) (getD bytes (at + 2) 0) (getD bytes (at + 3) 0) → WholeNumber n ≡ number-at bytes at
+  unfolding number-at
+  number-at-whole h n e = ap WholeNumber e ∙ ap number-told (sym (number-whole bytes at h))
+
+  -- a number that is found stands within the bytes, and the rest behind it
+  pub number-found : {n : ℕ} → number-at bytes at ≡ WholeNumber n → (at + 4 ≤ length bytes) × (number (drop at bytes) ≡ FRONT n (drop (at + 4) bytes))
+  unfolding number-at
+  number-found {n} e = go (number (drop at bytes)) refl e
+    where
+      go : (x : AtFront ℕ) → number (drop at bytes) ≡ x → number-told x ≡ WholeNumber n → (at + 4 ≤ length bytes) × (number (drop at bytes) ≡ FRONT n (drop (at + 4) bytes))
+      go CUT h told = absurd (let z : _≡_ {A = ℕ} 0 1 = cc in omega arith)
+      go (FRONT m rest) h told =
+          let (long, behind) = number-front (drop at bytes) h in
+          let same : m ≡ n = cc in
+          (omega (arith, length-drop at bytes), h ∙ ap₂ FRONT same (behind ∙ drop-drop 4 at bytes))
+
+  pub number-lost : number-at bytes at ≡ NumberCut → number (drop at bytes) ≡ CUT
+  unfolding number-at
+  number-lost e = go (number (drop at bytes)) refl e
+    where
+      go : (x : AtFront ℕ) → number (drop at bytes) ≡ x → number-told x ≡ NumberCut → number (drop at bytes) ≡ CUT
+      go CUT h told = h
+      go (FRONT n rest) h told = absurd (let z : _≡_ {A = ℕ} 0 1 = cc in omega arith)
+
+  -- a run is cut with its count, or behind it, or whole
+  pub run-at-cut : number-at bytes at ≡ NumberCut → RunCut ≡ run-at bytes at
+  unfolding run-at number-at counted then-read
+  run-at-cut e = go (number (drop at bytes)) e
+    where
+      go : (x : AtFront ℕ) → number-told x ≡ NumberCut → RunCut ≡ run-told at (then-read x so-many)
+      go CUT told = refl
+      go (FRONT m rest) told = absurd (let z : _≡_ {A = ℕ} 0 1 = cc in omega arith)
+
+  module _ {n : ℕ} (found : number-at bytes at ≡ WholeNumber n) where
+    counted-so : counted (drop at bytes) ≡ so-many n (drop (at + 4) bytes)
+    unfolding counted then-read
+    counted-so = ap (λ x. then-read x so-many) (number-found found .1)
+
+    pub run-at-short : length bytes - (at + 4) < n → RunCut ≡ run-at bytes at
+    unfolding run-at so-many
+    run-at-short h = sym (ap (run-told at) counted-so ∙ rw (lt-leb n (length (drop (at + 4) bytes)) (omega (arith, length-drop (at + 4) bytes))) refl)
+
+    pub run-at-whole : n ≤ length bytes - (at + 4) → WholeRun (at + 4) n ≡ run-at bytes at
+    unfolding run-at so-many
+    run-at-whole h =
+        let within : n ≤ length (drop (at + 4) bytes) = omega (arith, length-drop (at + 4) bytes) in
+        sym (ap (run-told at) counted-so ∙ rw (le-leb n (length (drop (at + 4) bytes)) within) (ap (WholeRun (at + 4)) (length-take-le n (drop (at + 4) bytes) within)))
+
+  -- and what a run that is found, or not, says of the bytes
+  pub run-lost : run-at bytes at ≡ RunCut → counted (drop at bytes) ≡ CUT
+  unfolding run-at
+  run-lost e = go (counted (drop at bytes)) refl e
+    where
+      go : (x : AtFront (List ℕ)) → counted (drop at bytes) ≡ x → run-told at x ≡ RunCut → counted (drop at bytes) ≡ CUT
+      go CUT h told = h
+      go (FRONT run rest) h told = absurd (let z : _≡_ {A = ℕ} 0 1 = cc in omega arith)
+
+  pub run-there : {run rest : List ℕ} → counted (drop at bytes) ≡ FRONT run rest
+      → (at + 4 + length run ≤ length bytes) × (run ≡ take (length run) (drop (at + 4) bytes)) × (rest ≡ drop (at + 4 + length run) bytes)
+  unfolding counted
+  run-there {run} {rest} h =
+      let (n, between, one, two) = then-parts (number (drop at bytes)) so-many h in
+      let (long, behind) = number-front (drop at bytes) one in
+      let (fits, is, left) = so-many-parts n between two in
+      let same : between ≡ drop (at + 4) bytes = behind ∙ drop-drop 4 at bytes in
+      let size : length run ≡ n = ap length is ∙ length-take-le n between fits in (
+        omega (arith, length-drop at bytes, length-drop (at + 4) bytes, ap length same),
+        is ∙ ap₂ take (sym size) same,
+        left ∙ ap (drop n) same ∙ drop-drop n (at + 4) bytes ∙ ap (λ k. drop (at + 4 + k) bytes) (sym size),
+      )
+
+  pub run-found : {from len : ℕ} → run-at bytes at ≡ WholeRun from len
+      → (from ≡ at + 4) × (from + len ≤ length bytes) × (counted (drop at bytes) ≡ FRONT (take len (drop from bytes)) (drop (from + len) bytes))
+  unfolding run-at
+  run-found {from} {len} e = go (counted (drop at bytes)) refl e
+    where
+      go : (x : AtFront (List ℕ)) → counted (drop at bytes) ≡ x → run-told at x ≡ WholeRun from len
+          → (from ≡ at + 4) × (from + len ≤ length bytes) × (counted (drop at bytes) ≡ FRONT (take len (drop from bytes)) (drop (from + len) bytes))
+      go CUT h told = absurd (let z : _≡_ {A = ℕ} 0 1 = cc in omega arith)
+      go (FRONT run rest) h told =
+          let place : from ≡ at + 4 = cc in
+          let size : len ≡ length run = cc in
+          let (fits, is, left) = run-there h in
+          (place, omega arith, h ∙ ap₂ FRONT (is ∙ rw (place, size) refl) (left ∙ rw (place, size) refl))

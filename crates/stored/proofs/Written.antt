@@ -1,0 +1,40 @@
+-- What is written at a place: the stores of a number's bytes, and a run behind its count, are what is put there.
+use Prim.Native.Nat.{ℕ, suc, _+_, _-_, _/_, _%_, _≤_}
+use mathlib.Core.Path.{_≡_, ap, ap₂, sym, _∙_}
+use mathlib.Core.List.{List, [], _∷_, _++_, append-assoc, append-nil}
+use native.Mathlib.Omega.{arith}
+use borrow.Rule.Slice.PartMut.{midOf, mid-len, postOf, post-is, putMid}
+use lib.ListN.{length, set, take, drop, drop-of-length-le}
+use lib.Seq.{sets-eq, take-length}
+use Rattle.pieces.specs.Written.{put-at}
+use Rattle.pieces.proofs.Putting.{put-on}
+use Rattle.stored.specs.Counted.{four-bytes, with-count}
+
+four-stores : (l : List ℕ) (at a b c d : ℕ) → at + 4 ≤ length l
+    → set (set (set (set l at a) (at + 1) b) (at + 2) c) (at + 3) d ≡ put-at l at (a ∷ b ∷ c ∷ d ∷ [])
+four-stores l at a b c d h =
+    let one : at + 1 ≡ suc at = omega arith in
+    let two : at + 2 ≡ suc (suc at) = omega arith in
+    let three : at + 3 ≡ suc (suc (suc at)) = omega arith in
+    rw (one, two, three) (sets-eq (a ∷ b ∷ c ∷ d ∷ []) l at h)
+
+pub number-stored : (l : List ℕ) (at n : ℕ) → at + 4 ≤ length l
+    → set (set (set (set l at (n % 256)) (at + 1) (n / 256 % 256)) (at + 2) (n / 65536 % 256)) (at + 3) (n / 16777216 % 256) ≡ put-at l at (four-bytes n)
+unfolding four-bytes
+number-stored l at n h = four-stores l at (n % 256) (n / 256 % 256) (n / 65536 % 256) (n / 16777216 % 256) h
+
+-- a part of the bytes that was lent for a run and is back
+pub bytes-stored : (l run last : List ℕ) (at : ℕ) → at + length run ≤ length l
+    → last ≡ take (length run) run ++ drop (length run) (midOf at (at + length run - at) l)
+    → putMid at (at + length run - at) l last ≡ put-at l at run
+bytes-stored l run last at room e =
+    let size : length (midOf at (at + length run - at) l) ≤ length run = omega (arith, mid-len at (at + length run) l room) in
+    let all : last ≡ run = e ∙ ap₂ _++_ (take-length run) (drop-of-length-le _ size) ∙ append-nil run in
+    ap (λ r. take at l ++ (r ++ postOf at (at + length run - at) l)) all ∙ ap (λ r. take at l ++ (run ++ r)) (post-is at (at + length run) l (omega arith))
+    ∙ sym (append-assoc (take at l) run (drop (at + length run) l))
+
+-- the count, then the bytes
+pub run-stored : (l m l′ run : List ℕ) (at : ℕ) → at + 4 + length run ≤ length l → m ≡ put-at l at (four-bytes (length run)) → l′ ≡ put-at m (at + 4) run
+    → l′ ≡ put-at l at (with-count run)
+unfolding with-count four-bytes
+run-stored l m l′ run at h one two = two ∙ ap (λ k. put-at k (at + 4) run) one ∙ put-on l at (four-bytes (length run)) (omega arith) run

@@ -1,0 +1,172 @@
+-- No word of the roll's theorems is empty: an instance of each, on one roll. P6's text, run to its end, is filed as job 7 and marked done;
+-- behind that, P7's text is filed as job 07, which cannot be marked done.
+use Prim.Native.Nat.{ℕ}
+use mathlib.Core.Path.{_≡_, refl}
+use mathlib.Core.List.{List, [], _∷_, _++_}
+use native.Mathlib.Omega.{arith}
+use lib.ListN.{take, replicate}
+use Rattle.plan.specs.Options.{_else_, is-none, under}
+use Rattle.plan.specs.Plan.{cells, labels, letter, print, _then_}
+use Rattle.plan.specs.Token.{follows, scalar, value, well-formed, all-permitted, allowed, before-brace, character, if-allowed, may-hold, permits, token-text}
+use Rattle.plan.specs.Reading.{class, fit, go-on, move, past-token, read, read-from}
+use Rattle.plan.specs.Rewriting.{after-two, finished, first-block, inner, next, outer}
+use Rattle.plan.specs.Services.{accept}
+use Rattle.plan.specs.Worked.{bytes}
+use Rattle.stored.specs.Counted.{counted, four-bytes, number, so-many, then-read, with-count}
+use Rattle.filing.specs.Format.{Entry, entry, listed, listing, roll, sections, with-first}
+use Rattle.filing.specs.Rules.{
+  broken,
+  counts-done,
+  counts-filed,
+  digits,
+  done,
+  filed,
+  finished-as,
+  is-finished,
+  is-job,
+  is-new,
+  is-printed,
+  may-close,
+  may-file,
+  newest,
+  obeys,
+  printed-as,
+  same,
+  says,
+  standing,
+}
+use Rattle.filing.specs.Answers.{
+  add-to,
+  after-done,
+  by-rules,
+  close-job,
+  closing-fault,
+  edition-1,
+  entry-bytes,
+  file,
+  fill,
+  filing-fault,
+  grown,
+  in-use,
+  judged,
+  new-bytes,
+  no-room,
+  places,
+  read-roll,
+  roll-numbers,
+  runs,
+  unbroken,
+  unfinished,
+  unless,
+}
+use Rattle.filing.specs.declared.RollAnswer.the-variants.{Listed, Refused}
+use Rattle.filing.specs.declared.RollRefusal.the-variants.{BadRoll, Unfinished}
+use Rattle.filing.specs.declared.Tally.{Tally}
+use Rattle.roll.specs.Calls.{Lists}
+use Rattle.keeping.specs.Calls.{Adds}
+use Rattle.demands.proofs.Instances as demanded
+use Rattle.demands.specs.Words.{READ}
+use Rattle.unlost.specs.Words.{HasText, ListedAs, OneMore, RollReads, TallyOf, Unchanged, Unlisted, entry-end, sections-size, torn-from, whole-in}
+use Rattle.unlost.proofs.Cut.{cut-reads}
+use Rattle.unlost.proofs.DoneHasText.{done-has-text}
+use Rattle.unlost.proofs.Kept.{done-is-last, done-refused, filed-is-last}
+use Rattle.unlost.proofs.Listed.{read-refused, reads-listed}
+use Rattle.unlost.proofs.RunsFiled.{done-can-be-marked}
+
+abbrev job : List ℕ
+job = bytes "7"
+
+abbrev other-job : List ℕ
+other-job = bytes "07"
+
+abbrev ended : List ℕ
+ended = bytes "[{y}][{x}]"
+
+abbrev p7 : List ℕ
+p7 = bytes "[{x}][[{y}]]a"
+
+-- the bytes of the three entries, and a roll of them in a buffer of 70
+abbrev first-filed : List ℕ
+first-filed = 2 ∷ 0 ∷ 0 ∷ 0 ∷ 1 ∷ 0 ∷ 0 ∷ 0 ∷ job ++ 10 ∷ 0 ∷ 0 ∷ 0 ∷ ended
+
+abbrev then-done : List ℕ
+then-done = 1 ∷ 0 ∷ 0 ∷ 0 ∷ 1 ∷ 0 ∷ 0 ∷ 0 ∷ job
+
+abbrev last-filed : List ℕ
+last-filed = 2 ∷ 0 ∷ 0 ∷ 0 ∷ 2 ∷ 0 ∷ 0 ∷ 0 ∷ other-job ++ 13 ∷ 0 ∷ 0 ∷ 0 ∷ p7
+
+abbrev buffer : List ℕ
+buffer = replicate 70 7
+
+abbrev one : List ℕ
+one = 1 ∷ first-filed ++ replicate 46 7
+
+abbrev two : List ℕ
+two = 1 ∷ first-filed ++ then-done ++ replicate 37 7
+
+abbrev three : List ℕ
+three = 1 ∷ first-filed ++ then-done ++ last-filed ++ replicate 10 7
+
+abbrev tally : (filed done : ℕ) → Tally
+tally f d = record { filed = f; done = d }
+
+pub calls : Adds (file edition-1 buffer 0 job ended) (tally 0 0) (Listed 1 1 0 24) one (tally 1 0)
+    × Adds (close-job edition-1 one 24 job) (tally 1 0) (Listed 2 1 1 33) two (tally 1 1)
+    × Adds (file edition-1 two 33 other-job p7) (tally 1 1) (Listed 3 2 1 60) three (tally 2 1)
+    × Adds (close-job edition-1 three 60 other-job) (tally 2 1) (Refused (Unfinished 33)) three (tally 2 1)
+    × Lists (take 60 three) (replicate 4 9) (Listed 3 2 1 60) (1 ∷ 24 ∷ 33 ∷ 9 ∷ []) × Lists buffer [] (Refused (BadRoll 0)) []
+unfolding read-roll fill places file close-job add-to in-use judged by-rules unbroken unless no-room filing-fault closing-fault unfinished after-done grown new-bytes entry-bytes runs with-count four-bytes roll listing listed with-first entry sections counted number so-many then-read broken obeys says same digits is-job is-printed printed-as is-finished finished-as standing newest may-file may-close is-new counts-filed counts-done filed done finished is-none next outer inner first-block after-two under _else_ accept read read-from go-on move past-token fit class token-text if-allowed before-brace allowed all-permitted permits may-hold character value follows scalar well-formed cells labels print letter _then_ bytes
+calls = (
+  record { answer = refl; bytes = refl; filed = refl; done = refl },
+  record { answer = refl; bytes = refl; filed = refl; done = refl },
+  record { answer = refl; bytes = refl; filed = refl; done = refl },
+  record { answer = refl; bytes = refl; filed = refl; done = refl },
+  record { answer = refl; places = refl },
+  record { answer = refl; places = refl },
+)
+
+-- each entry, with its place
+abbrev filing : Entry
+filing = record { place = 1; parts = job ∷ ended ∷ [] }
+
+abbrev closing : Entry
+closing = record { place = 24; parts = job ∷ [] }
+
+abbrev later : Entry
+later = record { place = 33; parts = other-job ∷ p7 ∷ [] }
+
+-- `RollReads`, of the whole and of a part that is cut in the last entry
+pub a-roll : RollReads (take 60 three) (filing ∷ closing ∷ later ∷ []) 60 × RollReads (take 59 three) (filing ∷ closing ∷ []) 33
+unfolding whole-in torn-from entry-end sections-size judged by-rules unbroken roll listing listed with-first entry sections counted number so-many then-read broken obeys says same digits is-job is-printed printed-as is-finished finished-as standing newest may-file may-close finished is-none next outer inner first-block after-two under _else_ accept read read-from go-on move past-token fit class token-text if-allowed before-brace allowed all-permitted permits may-hold character value follows scalar well-formed cells labels print letter _then_ bytes
+a-roll = (refl, cut-reads (take 60 three) {es = filing ∷ closing ∷ later ∷ []} {end = 60} refl 59)
+
+-- `ListedAs` and `Unlisted`
+pub a-listing : ListedAs (filing ∷ closing ∷ later ∷ []) 60 (replicate 4 9) (Listed 3 2 1 60) (1 ∷ 24 ∷ 33 ∷ 9 ∷ []) × Unlisted [] (Refused (BadRoll 0)) []
+a-listing = (reads-listed (calls .4) (filing ∷ closing ∷ later ∷ []) 60 (a-roll .0) (omega arith), read-refused (calls .5) (λ e. omega arith))
+
+-- `HasText`: the DONE stands behind its text
+pub a-done-with-text : HasText job (filing ∷ []) (later ∷ [])
+unfolding says
+a-done-with-text = done-has-text (take 60 three) (filing ∷ []) (later ∷ []) closing (a-roll .0) job refl
+
+-- `OneMore`, of both kinds of entry; `Unchanged`
+pub entries-added : OneMore buffer 0 (job ∷ ended ∷ []) (Listed 1 1 0 24) one × OneMore one 24 (job ∷ []) (Listed 2 1 1 33) two
+entries-added = (filed-is-last buffer 0 job ended (calls .0) refl, done-is-last one 24 job (calls .1) refl)
+
+pub an-entry-refused : Unchanged three (tally 2 1) (Refused (Unfinished 33)) three (tally 2 1)
+an-entry-refused = done-refused three 60 other-job (calls .3) (λ e. omega arith)
+
+-- `TallyOf`: no jobs at first; then one filed, and done; then another filed
+pub tallies : TallyOf (tally 0 0) [] × TallyOf (tally 1 0) (filing ∷ []) × TallyOf (tally 1 1) (filing ∷ closing ∷ []) × TallyOf (tally 2 1) (filing ∷ closing ∷ later ∷ [])
+unfolding filed done counts-filed counts-done says is-new standing newest same bytes
+tallies = (
+  record { jobs-filed = refl; jobs-done = refl },
+  record { jobs-filed = refl; jobs-done = refl },
+  record { jobs-filed = refl; jobs-done = refl },
+  record { jobs-filed = refl; jobs-done = refl },
+)
+
+-- and a run's DONE text, filed and marked done
+pub a-run-marked-done : roll-numbers (Listed 2 1 1 33) .number ≡ READ
+unfolding bytes
+a-run-marked-done = done-can-be-marked (demanded.calls .0) (demanded.a-done-run .0) buffer 0 job (calls .0) refl (calls .1) refl (λ e. omega arith)

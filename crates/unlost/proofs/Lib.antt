@@ -1,0 +1,10 @@
+pub mod Added
+pub mod Adding
+pub mod Cut
+pub mod DoneHasText
+pub mod Exact
+pub mod Instances
+pub mod Kept
+pub mod Listed
+pub mod OneAnswer
+pub mod RunsFiled

@@ -1,0 +1,2 @@
+// What the clerk asks of the roll, stated about its services. Nothing is done here: specs/ names the words, proofs/ has the
+// theorems.
