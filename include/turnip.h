@@ -14,15 +14,16 @@ extern "C" {
 
 /* What is lent.
 
-   A slice is a pointer and then a length, counted in elements: bytes for a text or an output, 32-bit numbers for a work
-   memory. The caller owns everything that is lent, before, during and after a call. Nothing is allocated, nothing is kept
+   A slice is a pointer and then a length, counted in elements: bytes for a text, an output, a roll or a job number, 32-bit
+   numbers for a work memory or a list. The caller owns everything that is lent, before, during and after a call. Nothing is allocated, nothing is kept
    between calls, and nothing that was lent is looked at after the call; so calls from several threads do not disturb each
-   other if they lend different outputs, memories and answers. A call uses a small fixed amount of stack, also for a plan
+   other if what is written is lent to one of them only: outputs, memories, answers, lists, tallies, and a roll that is added to. A call uses a small fixed amount of stack, also for a plan
    nested to the limit.
 
-   No pointer may be NULL, also not that of a slice of length 0: point it at any byte of yours (for a memory, at any uint32_t).
-   Numbers are aligned as uint32_t is. What is written (out, memory, answer) must not overlap anything else that is lent to
-   the same call. Apart from this a call asks nothing: any bytes, any lengths and any quota are answered. */
+   No pointer may be NULL, also not that of a slice of length 0: point it at any byte of yours (for a memory or a list, at any
+   uint32_t). Numbers are aligned as uint32_t is. What is written (out, memory, answer; list, tally, a roll that is added to) must
+   not overlap anything else that is lent to the same call: so a job number or a text that stands in a roll is copied out of it
+   before it is added there. Apart from this a call asks nothing: any bytes, any lengths and any quota are answered. */
 
 /* The five numbers of an answer, in answer[0] to answer[4]. */
 enum turnip_field {
@@ -87,7 +88,7 @@ enum turnip_roll_field {
 };
 
 enum turnip_entry_field {
-    TURNIP_ENTRY_NUMBER,     /* 3, 11 or 39 */
+    TURNIP_ENTRY_NUMBER,     /* 3, 11 or 39; with 11 and 39 the other four are 0 */
     TURNIP_ENTRY_JOB,        /* where the job number stands in the roll */
     TURNIP_ENTRY_JOB_BYTES,  /* and its bytes */
     TURNIP_ENTRY_TEXT,       /* where the text stands in the roll; 0 for DONE */

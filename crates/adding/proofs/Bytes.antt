@@ -12,7 +12,7 @@ use lib.Seq.{sets-eq}
 use Rattle.pieces.specs.Written.{put-at}
 use Rattle.pieces.proofs.Putting.{put-long, put-nothing, put-on}
 use Rattle.stored.specs.Counted.{four-bytes, with-count}
-use Rattle.filing.specs.Answers.{edition-1, entry-bytes, new-bytes, runs}
+use Rattle.filing.specs.Answers.{edition-1, entry-bytes, new-bytes, sections-bytes}
 use Rattle.adding.specs.Adding.{opening}
 
 pub new-opening : (end : ℕ) (parts : List (List ℕ)) → new-bytes edition-1 end parts ≡ opening end ++ entry-bytes parts
@@ -45,12 +45,12 @@ unfolding with-count
 count-long run = length-append (four-bytes (length run)) run ∙ ap (_+ length run) (four-long (length run))
 
 pub done-long : (job : List ℕ) → length (entry-bytes (job ∷ [])) ≡ 8 + length job
-unfolding entry-bytes runs
+unfolding entry-bytes sections-bytes
 done-long job =
     omega (arith, length-append (four-bytes 1) (with-count job ++ []), four-long 1, length-append (with-count job) [], count-long job)
 
 pub filed-long : (job text : List ℕ) → length (entry-bytes (job ∷ text ∷ [])) ≡ 12 + length job + length text
-unfolding entry-bytes runs
+unfolding entry-bytes sections-bytes
 filed-long job text =
     omega (
       arith,
@@ -77,10 +77,10 @@ put-as-long l end a room one = ap length one ∙ put-long l end a room
 
 -- the number of sections, behind the first byte where there was none
 module _ (l : List ℕ) (end : ℕ) (parts : List (List ℕ)) (room : end + length (new-bytes edition-1 end parts) ≤ length l) where
-  entry-room : end + length (opening end) + (4 + length (runs parts)) ≤ length l
+  entry-room : end + length (opening end) + (4 + length (sections-bytes parts)) ≤ length l
   unfolding entry-bytes
   entry-room =
-      omega (arith, new-long l end parts, length-append (four-bytes (length parts)) (runs parts), four-long (length parts))
+      omega (arith, new-long l end parts, length-append (four-bytes (length parts)) (sections-bytes parts), four-long (length parts))
 
   pub new-begins : end < length l
   new-begins = omega (arith, entry-room)
@@ -100,29 +100,29 @@ module _ (l : List ℕ) (end : ℕ) (parts : List (List ℕ)) (room : end + leng
       long₂ = put-as-long l end (opening end ++ four-bytes (length parts)) (omega (arith, entry-room, far, there)) so-far
 
       -- all sections, put behind the number
-      whole : {m₃ : List ℕ} → m₃ ≡ put-at m₂ (at + 4) (runs parts) → m₃ ≡ put-at l end (new-bytes edition-1 end parts)
+      whole : {m₃ : List ℕ} → m₃ ≡ put-at m₂ (at + 4) (sections-bytes parts) → m₃ ≡ put-at l end (new-bytes edition-1 end parts)
       unfolding entry-bytes
       whole three =
-          then-put l end (opening end ++ four-bytes (length parts)) (runs parts) (omega (arith, entry-room, far, there)) so-far far three
-          ∙ ap (put-at l end) (append-assoc (opening end) (four-bytes (length parts)) (runs parts) ∙ sym (new-opening end parts))
+          then-put l end (opening end ++ four-bytes (length parts)) (sections-bytes parts) (omega (arith, entry-room, far, there)) so-far far three
+          ∙ ap (put-at l end) (append-assoc (opening end) (four-bytes (length parts)) (sections-bytes parts) ∙ sym (new-opening end parts))
 
-      sections-room : at + 4 + length (runs parts) ≤ length m₂
+      sections-room : at + 4 + length (sections-bytes parts) ≤ length m₂
       sections-room = omega (arith, entry-room, there, long₂)
 
 module _ (l : List ℕ) (end : ℕ) (job : List ℕ) (room : end + length (new-bytes edition-1 end (job ∷ [])) ≤ length l) {m m₂ : List ℕ} {at : ℕ}
     (one : m ≡ put-at l end (opening end)) (there : at ≡ end + length (opening end)) (two : m₂ ≡ put-at m at (four-bytes 1)) where
   pub done-room : at + 4 + 4 + length job ≤ length m₂
-  unfolding runs
+  unfolding sections-bytes
   done-room = omega (arith, sections-room l end (job ∷ []) room one there two, length-append (with-count job) [], count-long job)
 
   pub done-put : {m₃ : List ℕ} → m₃ ≡ put-at m₂ (at + 4) (with-count job) → m₃ ≡ put-at l end (new-bytes edition-1 end (job ∷ []))
-  unfolding runs
+  unfolding sections-bytes
   done-put three = whole l end (job ∷ []) room one there two (three ∙ ap (put-at m₂ (at + 4)) (sym (append-nil (with-count job))))
 
 module _ (l : List ℕ) (end : ℕ) (job text : List ℕ) (room : end + length (new-bytes edition-1 end (job ∷ text ∷ [])) ≤ length l) {m m₂ : List ℕ} {at : ℕ}
     (one : m ≡ put-at l end (opening end)) (there : at ≡ end + length (opening end)) (two : m₂ ≡ put-at m at (four-bytes 2)) where
   both : at + 4 + (4 + length job + (4 + length text)) ≤ length m₂
-  unfolding runs
+  unfolding sections-bytes
   both =
       omega (
         arith,
@@ -144,7 +144,7 @@ module _ (l : List ℕ) (end : ℕ) (job text : List ℕ) (room : end + length (
     filed-text-room = omega (arith, both, long₃)
 
     pub filed-put : {m₄ : List ℕ} → m₄ ≡ put-at m₃ (at + 4 + 4 + length job) (with-count text) → m₄ ≡ put-at l end (new-bytes edition-1 end (job ∷ text ∷ []))
-    unfolding runs
+    unfolding sections-bytes
     filed-put four =
         let there₄ : at + 4 + 4 + length job ≡ at + 4 + length (with-count job) = omega (arith, count-long job) in
         whole l end (job ∷ text ∷ []) room one there two

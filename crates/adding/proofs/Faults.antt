@@ -11,9 +11,9 @@ use Rattle.plan.specs.Services.{standard}
 use Rattle.filing.specs.Answers.{READS, after-done, closing-fault, edition-1, filing-fault, judged, longest, unfinished}
 use Rattle.filing.specs.Format.{Entry}
 use Rattle.filing.specs.Rules.{JobStanding, UNFILED, FILED-AT, DONE-AT, is-finished, is-job, is-new, is-printed, standing}
-use Rattle.filing.specs.Standing.{EntriesStand}
+use Rattle.filing.specs.EntriesStand.{EntriesStand}
 use Rattle.filing.specs.declared.RollRefusal.the-variants.{AlreadyDone, BadJob, BadText, Unfiled, Unfinished}
-use Rattle.roll.proofs.Reading.{with-end}
+use Rattle.filing.proofs.Sound.{with-end}
 use Rattle.adding.specs.Adding.{ReadsUp, closing-told, filing-told}
 use Rattle.adding.specs.declared.Filing.the-variants.{Fine, Refused}
 use Rattle.adding.specs.declared.Closing.the-variants.{Fine as FineClosing, Refused as RefusedClosing}

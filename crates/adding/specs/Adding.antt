@@ -15,7 +15,7 @@ use Rattle.adding.specs.declared.Closing.the-variants.{Fine as FineClosi
 
 -- the first byte, where there is none yet
 abbrev pub opening : (end : ℕ) → List ℕ
-opening end = cond (eqb end 0) (1 ∷ []) []
+opening end = cond (eqb end 0) (edition-1 .first ∷ []) []
 
 abbrev pub filing-told : Option RollRefusal → (new : Bool) → Filing
 filing-told none new = Fine new

@@ -8,7 +8,7 @@ use lib.Seq.{drop-cons, drop-drop}
 use Rattle.stored.specs.Counted.{AtFront, CUT, FRONT, counted, number, so-many, then-read}
 use Rattle.stored.proofs.Counted.{number-front, so-many-parts, then-parts}
 use Rattle.filing.specs.Format.{Entry, Listing, entry, listed, listing, sections, with-first}
-use Rattle.filing.specs.Standing.{EntriesStand}
+use Rattle.filing.specs.EntriesStand.{EntriesStand}
 
 -- what is read from the front leaves a back part
 pub record LeftBehind (bs rest : List ℕ) : Type 0 where

@@ -1,5 +1,6 @@
 pub mod Adding
 pub mod Format
+pub mod Growing
 pub mod NextEntry
 pub mod Readback
 pub mod Same

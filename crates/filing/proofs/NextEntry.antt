@@ -7,7 +7,7 @@ use native.Mathlib.Omega.{arith}
 use lib.ListN.{length, drop}
 use Rattle.stored.specs.Counted.{FRONT}
 use Rattle.filing.specs.Format.{Entry, entry}
-use Rattle.filing.specs.Standing.{EntriesStand}
+use Rattle.filing.specs.EntriesStand.{EntriesStand}
 use Rattle.filing.proofs.Format.{stands-within}
 
 pub record NextEntry (bytes : List ℕ) (at upto : ℕ) (come : List Entry) : Type 0 where

@@ -5,7 +5,7 @@ use mathlib.Core.List.{List, [], _∷_, _++_, append-assoc}
 use lib.ListN.{length}
 use Rattle.stored.specs.Counted.{FRONT, counted, four-bytes, number, then-read, with-count}
 use Rattle.stored.proofs.Readback.{counted-back, number-back}
-use Rattle.filing.specs.Answers.{entry-bytes, longest, runs}
+use Rattle.filing.specs.Answers.{entry-bytes, longest, sections-bytes}
 use Rattle.filing.specs.Format.{entry, sections}
 
 -- sections whose counts fit into four bytes
@@ -13,14 +13,14 @@ abbrev pub Storable : List (List ℕ) → Type 0
 Storable [] = Unit {0}
 Storable (s ∷ ss) = (length s ≤ longest) × Storable ss
 
-sections-back : (ss : List (List ℕ)) (more : List ℕ) → Storable ss → sections (length ss) (runs ss ++ more) ≡ FRONT ss more
-unfolding sections runs then-read
+sections-back : (ss : List (List ℕ)) (more : List ℕ) → Storable ss → sections (length ss) (sections-bytes ss ++ more) ≡ FRONT ss more
+unfolding sections sections-bytes then-read
 sections-back [] more fits = refl
 sections-back (s ∷ ss) more (fits, later) =
-    let first = ap counted (append-assoc (with-count s) (runs ss) more) ∙ counted-back s (runs ss ++ more) fits in
+    let first = ap counted (append-assoc (with-count s) (sections-bytes ss) more) ∙ counted-back s (sections-bytes ss ++ more) fits in
     rw (first, sections-back ss more later) refl
 
 pub entry-back : (parts : List (List ℕ)) (more : List ℕ) → length parts ≤ longest → Storable parts → entry (entry-bytes parts ++ more) ≡ FRONT parts more
 unfolding entry entry-bytes then-read
 entry-back parts more few fits =
-    ap (λ x. then-read x sections) (ap number (append-assoc (four-bytes (length parts)) (runs parts) more) ∙ number-back (length parts) (runs parts ++ more) few) ∙ sections-back parts more fits
+    ap (λ x. then-read x sections) (ap number (append-assoc (four-bytes (length parts)) (sections-bytes parts) more) ∙ number-back (length parts) (sections-bytes parts ++ more) few) ∙ sections-back parts more fits

@@ -1,5 +1,5 @@
 -- A roll that reads, by its bytes: the first one, the entries one behind the other, and what stands behind them is torn.
-use Prim.Native.Nat.{ℕ, _+_, _≤_}
+use Prim.Native.Nat.{ℕ, _+_, _≤_, _<_}
 use mathlib.Core.Path.{_≡_, refl, ap, subst, _∙_}
 use mathlib.Core.Logic.{_⊎_, inl, inr}
 use mathlib.Core.Bool.{Bool, true, false, cond}
@@ -15,9 +15,9 @@ use Rattle.stored.specs.Counted.{AtFront, CUT, FRONT}
 use Rattle.filing.specs.Answers.{READS, REFUSES, by-rules, edition-1, judged, longest, unbroken}
 use Rattle.filing.specs.Format.{Entry, Listing, entry, listing, roll, with-first}
 use Rattle.filing.specs.Rules.{broken}
-use Rattle.filing.specs.Standing.{EntriesStand}
+use Rattle.filing.specs.EntriesStand.{EntriesStand}
 use Rattle.filing.specs.declared.RollRefusal.the-variants.{TooLong}
-use Rattle.filing.proofs.Format.{entry-there, in-front, listing-cut, listing-stands, listing-stands-up, listing-whole}
+use Rattle.filing.proofs.Format.{stands-within, entry-there, in-front, listing-cut, listing-stands, listing-stands-up, listing-whole}
 
 -- a roll of no bytes
 pub record Blank (bytes : List ℕ) (es : List Entry) (end : ℕ) : Type 0 where
@@ -117,3 +117,19 @@ sound-reads bytes {es} {end} s =
     listing-stands bytes 1 end es (s .stand) ∙ ap (in-front es) (listing-cut bytes end (s .torn) (s .within)) ∙ in-front-whole es end in
     rw (le-ltb longest (length bytes) (s .short)) (ap (λ bs. by-rules standard (roll 1 bs)) (s .first) ∙ ap (λ (l : Listing). unbroken (broken standard [] (l .entries)) l) listed
     ∙ ap (λ x. unbroken x (record { entries = es; end = end })) (s .obeyed))
+
+-- the same of every roll that reads, where only its end is asked for
+pub record WithEnd (bytes : List ℕ) (es : List Entry) (end : ℕ) : Type 0 where
+  pub short : length bytes ≤ longest
+  pub within : end ≤ length bytes
+  pub none-there : end ≡ 0 → es ≡ []
+  pub stand : 0 < end → EntriesStand bytes 1 es end
+
+pub with-end : (bytes : List ℕ) {es : List Entry} {end : ℕ} → judged edition-1 bytes ≡ READS es end → WithEnd bytes es end
+with-end bytes {es} {end} e = go (reads-sound bytes e)
+  where
+    go : Blank bytes es end ⊎ SoundRoll bytes es end → WithEnd bytes es end
+    go (inl b) =
+        record { short = omega (arith, ap length (b .no-bytes)); within = omega (arith, b .at-0); none-there = λ _. b .no-entries; stand = λ more. absurd (omega (arith, b .at-0)) }
+    go (inr s) =
+        record { short = s .short; within = s .within; none-there = λ z. absurd (omega (arith, z, stands-within bytes 1 end es (s .stand))); stand = λ _. s .stand }

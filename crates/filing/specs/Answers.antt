@@ -7,7 +7,6 @@ use lib.Dec.{eqb, leb, ltb}
 use lib.ListN.{length, take, drop}
 use Rattle.plan.specs.Options.{_else_}
 use Rattle.plan.specs.Services.{Limits, standard}
-use Rattle.pieces.specs.Written.{put-at}
 use Rattle.stored.specs.Counted.{AtFront, CUT, FRONT, four-bytes, with-count}
 use Rattle.filing.specs.declared.RollAnswer.{RollAnswer}
 use Rattle.filing.specs.declared.RollAnswer.the-variants.{Listed, Refused}
@@ -53,9 +52,12 @@ pub record Edition : Type 0 where
 abbrev pub edition-1 : Edition
 edition-1 = record { first = 1; limits = standard }
 
--- no roll and no buffer is longer
+-- the largest number that is told or stored; no roll and no buffer is longer
+abbrev pub largest : ℕ
+largest = 4294967295
+
 abbrev pub longest : ℕ
-longest = 4294967295
+longest = largest
 
 -- a roll that reads as these entries, up to their end; or is refused
 pub data Judged : Type 0 where
@@ -124,12 +126,12 @@ unfoldable pub closing-fault : Limits → (past : List Entry) → (job : List �
 closing-fault lim past job = cond (is-job job) (unfinished lim (standing job past)) (some BadJob)
 
 -- The new entry goes to the end, behind the first byte where there was none.
-unfoldable pub runs : List (List ℕ) → List ℕ
-runs [] = []
-runs (s ∷ ss) = with-count s ++ runs ss
+unfoldable pub sections-bytes : List (List ℕ) → List ℕ
+sections-bytes [] = []
+sections-bytes (s ∷ ss) = with-count s ++ sections-bytes ss
 
 unfoldable pub entry-bytes : List (List ℕ) → List ℕ
-entry-bytes parts = four-bytes (length parts) ++ runs parts
+entry-bytes parts = four-bytes (length parts) ++ sections-bytes parts
 
 unfoldable pub new-bytes : Edition → (end : ℕ) → List (List ℕ) → List ℕ
 new-bytes ed end parts = cond (eqb end 0) (ed .first ∷ entry-bytes parts) (entry-bytes parts)
@@ -151,13 +153,13 @@ abbrev pub made : Edition → (buffer : List ℕ) → (past : List Entry) → (e
 made ed buffer past end parts =
     record {
       answer = listed-as (new-entry end parts ∷ past) (end + length (new-bytes ed end parts));
-      buffer = put-at buffer end (new-bytes ed end parts);
+      buffer = take end buffer ++ new-bytes ed end parts ++ drop (end + length (new-bytes ed end parts)) buffer;
       more-filed = counts-filed past (says parts);
       more-done = counts-done (says parts);
     }
 
 unfoldable pub no-room : (room end : ℕ) → Option RollRefusal
-no-room room end = cond (leb end room) none (some (NoRoom (min end longest)))
+no-room room end = cond (leb end room) none (some (NoRoom (min end largest)))
 
 unfoldable pub unless : Option RollRefusal → (buffer : List ℕ) → Added → Added
 unless none buffer added = added
@@ -184,4 +186,4 @@ close-job ed buffer used job =
 
 -- a count of the tally, which stops at the largest number
 unfoldable pub grown : Bool → ℕ → ℕ
-grown more n = cond more (min (n + 1) longest) n
+grown more n = cond more (min (n + 1) largest) n

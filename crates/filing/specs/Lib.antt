@@ -1,4 +1,4 @@
 pub mod Answers
+pub mod EntriesStand
 pub mod Format
 pub mod Rules
-pub mod Standing

@@ -1,6 +1,6 @@
 // What the services of the roll answer. The definitions in specs/ speak of these types, so that a promise is one equation.
 ghost use mathlib.Core.Path.{_≡_};
-ghost use Rattle.filing.specs.Answers.{roll-numbers, roll-refusal-number, roll-refusal-place};
+ghost use Rattle.filing.specs.Answers.{grown, roll-numbers, roll-refusal-number, roll-refusal-place};
 
 // No roll and no buffer is longer.
 pub const LONGEST: usize = 4_294_967_295;
@@ -59,6 +59,19 @@ pub enum EntryAnswer {
 pub struct Tally {
     pub filed: u32,
     pub done: u32,
+}
+
+// One more where it counts; the largest number stays.
+pub fn grown(count: u32, more: bool) -> u32
+    ensures { λ r. ⌜ r ≡ grown more count ⌝ }
+{
+    if more {
+        if count < 4_294_967_295 {
+            return count + 1;
+        }
+        return count;
+    }
+    count
 }
 
 impl RollRefusal {

@@ -12,7 +12,7 @@ use Rattle.plan.proofs.Tests.{never}
 use Rattle.filing.specs.Answers.{READS, edition-1, judged}
 use Rattle.filing.specs.Format.{Entry}
 use Rattle.filing.specs.Rules.{counts-done, counts-filed, done, filed, says}
-use Rattle.filing.specs.Standing.{EntriesStand}
+use Rattle.filing.specs.EntriesStand.{EntriesStand}
 use Rattle.filing.specs.declared.RollRefusal.{RollRefusal}
 use Rattle.roll.specs.Judging.{looked}
 use Rattle.roll.specs.declared.LookedOver.{LookedOver}

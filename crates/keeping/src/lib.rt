@@ -19,9 +19,9 @@ use filing::LONGEST;
 use filing::RollAnswer;
 use filing::RollRefusal;
 use filing::Tally;
+use filing::grown;
 use roll::LookedOver;
 use roll::look_over;
-use roll::one_more;
 
 // Whether an entry may be added, but for room: what the roll comes to and where it ends, and whether the job is new in it.
 pub enum Weighing {
@@ -91,7 +91,7 @@ fn least(a: usize, b: usize) -> usize
 }
 
 // Of a buffer only the bytes in use are a roll; a longer use counts as all of it.
-fn weigh_filed(buffer: &[u8], used: usize, job: &[u8], text: &[u8]) -> Weighing
+fn weigh_used_filed(buffer: &[u8], used: usize, job: &[u8], text: &[u8]) -> Weighing
     ensures { λ r. ⌜ JudgedWeighed (in-use edition-1 (now (buffer .entry)) used) (λ past. filing-fault standard past (now (job .entry)) (now (text .entry))) (λ past. is-new (standing (now (job .entry)) past)) (length (now (buffer .entry))) r ⌝ }
 {
     if LONGEST < buffer.len() {
@@ -101,7 +101,7 @@ fn weigh_filed(buffer: &[u8], used: usize, job: &[u8], text: &[u8]) -> Weighing
     weigh_roll_filed(&buffer[0..end], job, text)
 }
 
-fn weigh_done(buffer: &[u8], used: usize, job: &[u8]) -> Weighing
+fn weigh_used_done(buffer: &[u8], used: usize, job: &[u8]) -> Weighing
     ensures { λ r. ⌜ JudgedWeighed (in-use edition-1 (now (buffer .entry)) used) (λ past. closing-fault standard past (now (job .entry))) never-new (length (now (buffer .entry))) r ⌝ }
 {
     if LONGEST < buffer.len() {
@@ -153,7 +153,7 @@ fn not_entered(refusal: RollRefusal) -> Entered
 pub fn file_entry(buffer: &mut [u8], used: usize, job: &[u8], text: &[u8]) -> Entered
     ensures { λ r. ⌜ EnteredAs (file edition-1 (now (buffer .entry)) used (now (job .entry)) (now (text .entry))) r (now (buffer .exit)) ⌝ }
 {
-    match weigh_filed(buffer, used, job, text) {
+    match weigh_used_filed(buffer, used, job, text) {
         Weighing::Refused(refusal) => not_entered(refusal),
         Weighing::Fine {
             entries,
@@ -170,7 +170,7 @@ pub fn file_entry(buffer: &mut [u8], used: usize, job: &[u8], text: &[u8]) -> En
             Entered {
                 answer: RollAnswer::Listed {
                     entries: entries + 1,
-                    filed: one_more(filed, new),
+                    filed: grown(filed, new),
                     done,
                     end: last as u32,
                 },
@@ -185,7 +185,7 @@ pub fn file_entry(buffer: &mut [u8], used: usize, job: &[u8], text: &[u8]) -> En
 pub fn done_entry(buffer: &mut [u8], used: usize, job: &[u8]) -> Entered
     ensures { λ r. ⌜ EnteredAs (close-job edition-1 (now (buffer .entry)) used (now (job .entry))) r (now (buffer .exit)) ⌝ }
 {
-    match weigh_done(buffer, used, job) {
+    match weigh_used_done(buffer, used, job) {
         Weighing::Refused(refusal) => not_entered(refusal),
         Weighing::Fine {
             entries,
@@ -213,26 +213,13 @@ pub fn done_entry(buffer: &mut [u8], used: usize, job: &[u8]) -> Entered
     }
 }
 
-// One more where it counts; the largest number stays.
-fn counted(n: u32, counts: bool) -> u32
-    ensures { λ r. ⌜ r ≡ grown counts n ⌝ }
-{
-    if counts {
-        if n < 4_294_967_295 {
-            return n + 1;
-        }
-        return n;
-    }
-    n
-}
-
 // The next two take values, so that of the tally lent `count` only reads and stores it whole.
 pub fn with_entry(tally: Tally, entered: Entered) -> Tally
     ensures { λ r. ⌜ (r .filed ≡ grown (entered .filed) (tally .filed)) × (r .done ≡ grown (entered .done) (tally .done)) ⌝ }
 {
     Tally {
-        filed: counted(tally.filed, entered.filed),
-        done: counted(tally.done, entered.done),
+        filed: grown(tally.filed, entered.filed),
+        done: grown(tally.done, entered.done),
     }
 }
 

@@ -11,7 +11,7 @@ use Rattle.entries.specs.Entries.{entry-at, next-told}
 use Rattle.entries.proofs.Parts.{entry-tells}
 use Rattle.filing.specs.Answers.{longest, places}
 use Rattle.filing.specs.Format.{Entry}
-use Rattle.filing.specs.Standing.{EntriesStand}
+use Rattle.filing.specs.EntriesStand.{EntriesStand}
 use Rattle.filing.proofs.NextEntry.{NextEntry, next-entry, no-next-entry}
 use Rattle.filing.proofs.Format.{stands-within}
 use Rattle.roll.specs.Judging.{Fillable, filled}

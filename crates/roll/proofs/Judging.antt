@@ -12,11 +12,12 @@ use lib.Seq.{drop-cons}
 use Rattle.plan.specs.Services.{standard}
 use Rattle.plan.proofs.Tests.{never}
 use Rattle.stored.specs.Counted.{AtFront, CUT, FRONT}
-use Rattle.filing.specs.Answers.{Judged, READS, REFUSES, by-rules, edition-1, judged, longest, unbroken}
+use Rattle.filing.specs.Answers.{Judged, READS, REFUSES, by-rules, edition-1, grown, judged, longest, unbroken}
 use Rattle.filing.specs.Format.{Entry, Listing, entry, listing, roll, with-first}
 use Rattle.filing.specs.Rules.{broken, counts-done, counts-filed, done, filed, obeys, says}
-use Rattle.filing.specs.Standing.{EntriesStand}
+use Rattle.filing.specs.EntriesStand.{EntriesStand}
 use Rattle.filing.specs.declared.RollRefusal.the-variants.{TooLong, BadRoll}
+use Rattle.filing.proofs.Growing.{grown-below}
 use Rattle.filing.proofs.Format.{entry-there, in-front, listing-cut, listing-stands, listing-whole, stands-on}
 use Rattle.weighing.specs.Weighed.{Weighable, entry-weighed, weighed}
 use Rattle.weighing.specs.declared.Weighed.{Weighed}
@@ -178,13 +179,15 @@ module _ {bytes : List ℕ} {at entries filed₁ done₁ : ℕ} (j : JudgedSoFar
       pub judged-less : length bytes - next < length bytes - at
       judged-less = let low = there .2 in let high = there .3 in omega (arith, next-is)
 
-      grown : (b : Bool) (n : ℕ) → n ≤ entries → cond b (suc n) n ≤ entries + 1
-      grown true n h = omega arith
-      grown false n h = omega arith
+      at-most : (b : Bool) (n : ℕ) → n ≤ entries → cond b (suc n) n ≤ entries + 1
+      at-most true n h = omega arith
+      at-most false n h = omega arith
 
-      pub judged-on : (f′ d′ : ℕ) → f′ ≡ cond f (suc filed₁) filed₁ → d′ ≡ cond d (suc done₁) done₁ → JudgedSoFar bytes next (entries + 1) f′ d′
+      pub judged-on : (f′ d′ : ℕ) → f′ ≡ grown f filed₁ → d′ ≡ grown d done₁ → JudgedSoFar bytes next (entries + 1) f′ d′
       unfolding filed done broken first
-      judged-on f′ d′ ef ed =
+      judged-on f′ d′ grew-f grew-d =
+          let ef = grew-f ∙ grown-below f filed₁ (omega (arith, judged-room, j .filed-few)) in
+          let ed = grew-d ∙ grown-below d done₁ (omega (arith, judged-room, j .done-few)) in
           let low = there .2 in
           let high = there .3 in
           let newest : reverse (j .es ++ first ∷ []) ≡ first ∷ reverse (j .es) = reverse-append (j .es) (first ∷ []) in
@@ -198,8 +201,8 @@ module _ {bytes : List ℕ} {at entries filed₁ done₁ : ℕ} (j : JudgedSoFar
             filed-so = ef ∙ ap₂ (λ b n. cond b (suc n) n) (its .more-filed) (j .filed-so) ∙ sym (ap filed newest);
             done-so = ed ∙ ap₂ (λ b n. cond b (suc n) n) (its .more-done) (j .done-so) ∙ sym (ap done newest);
             few = omega (arith, j .few, next-is);
-            filed-few = subst (_≤ entries + 1) (sym ef) (grown f filed₁ (j .filed-few));
-            done-few = subst (_≤ entries + 1) (sym ed) (grown d done₁ (j .done-few));
+            filed-few = subst (_≤ entries + 1) (sym ef) (at-most f filed₁ (j .filed-few));
+            done-few = subst (_≤ entries + 1) (sym ed) (at-most d done₁ (j .done-few));
             obeyed = λ rest.
                 ap (broken standard []) (append-assoc (j .es) (first ∷ []) rest) ∙ j .obeyed (first ∷ rest)
                 ∙ ap (λ (t : Bool). cond t (broken standard (first ∷ reverse (j .es)) rest) (some at)) (its .obeyed)

@@ -10,11 +10,11 @@ use Rattle.plan.proofs.Tests.{never}
 use Rattle.filing.specs.Answers.{Judged, READS, REFUSES, edition-1, fill, judged, listed-as, longest, places, read-roll}
 use Rattle.filing.specs.Format.{Entry}
 use Rattle.filing.specs.Rules.{done, filed}
-use Rattle.filing.specs.Standing.{EntriesStand}
+use Rattle.filing.specs.EntriesStand.{EntriesStand}
 use Rattle.filing.specs.declared.RollAnswer.the-variants.{Listed, Refused as RefusedRoll}
 use Rattle.filing.specs.declared.RollRefusal.{RollRefusal}
 use Rattle.filing.specs.declared.RollRefusal.the-variants.{MoreEntries}
-use Rattle.filing.proofs.Sound.{Blank, SoundRoll, reads-sound}
+use Rattle.filing.proofs.Sound.{WithEnd, with-end}
 use Rattle.filing.proofs.Format.{stands-within}
 use Rattle.roll.specs.Calls.{Lists}
 use Rattle.roll.specs.Judging.{Fillable, filled, looked}
@@ -32,22 +32,6 @@ pub record ReadsAs (bytes : List ℕ) (entries filed₁ done₁ end : ℕ) : Typ
   pub within : end ≤ length bytes
   pub none-there : end ≡ 0 → es ≡ []
   pub stand : 0 < end → EntriesStand bytes 1 es end
-
--- what the definition's answer says, whatever the code counted
-pub record WithEnd (bytes : List ℕ) (es : List Entry) (end : ℕ) : Type 0 where
-  pub short : length bytes ≤ longest
-  pub within : end ≤ length bytes
-  pub none-there : end ≡ 0 → es ≡ []
-  pub stand : 0 < end → EntriesStand bytes 1 es end
-
-pub with-end : (bytes : List ℕ) {es : List Entry} {end : ℕ} → judged edition-1 bytes ≡ READS es end → WithEnd bytes es end
-with-end bytes {es} {end} e = go (reads-sound bytes e)
-  where
-    go : Blank bytes es end ⊎ SoundRoll bytes es end → WithEnd bytes es end
-    go (inl b) =
-        record { short = omega (arith, ap length (b .no-bytes)); within = omega (arith, b .at-0); none-there = λ _. b .no-entries; stand = λ more. absurd (omega (arith, b .at-0)) }
-    go (inr s) =
-        record { short = s .short; within = s .within; none-there = λ z. absurd (omega (arith, z, stands-within bytes 1 end es (s .stand))); stand = λ _. s .stand }
 
 module _ (bytes : List ℕ) {x : LookedOver} (told : x ≡ looked (judged edition-1 bytes)) where
   pub looked-refused : {r : RollRefusal} → x ≡ Refused r → judged edition-1 bytes ≡ REFUSES r

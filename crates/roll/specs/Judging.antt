@@ -5,7 +5,7 @@ use lib.ListN.{length, drop}
 use Rattle.filing.specs.Answers.{Judged, READS, REFUSES, longest, places, roll-refusal-place}
 use Rattle.filing.specs.Format.{Entry}
 use Rattle.filing.specs.Rules.{done, filed}
-use Rattle.filing.specs.Standing.{EntriesStand}
+use Rattle.filing.specs.EntriesStand.{EntriesStand}
 use Rattle.roll.specs.declared.Judgement.{Judgement}
 use Rattle.roll.specs.declared.Judgement.the-variants.{Reads, Breaks}
 use Rattle.roll.specs.declared.LookedOver.{LookedOver}

@@ -7,7 +7,7 @@ ghost use Prim.Native.Nat.{suc, _≤_, _<_};
 ghost use lib.ListN.{length, drop};
 ghost use Rattle.plan.specs.Services.{standard};
 ghost use Rattle.filing.specs.Format.{Entry, listing};
-ghost use Rattle.filing.specs.Standing.{EntriesStand};
+ghost use Rattle.filing.specs.EntriesStand.{EntriesStand};
 ghost use Rattle.filing.specs.Answers.{by-rules, edition-1, judged, longest, one-entry};
 ghost use Rattle.roll.specs.Calls.{Lists};
 ghost use Rattle.roll.specs.Judging.{Fillable, filled, judgement, looked};
@@ -19,6 +19,7 @@ use filing::FIRST;
 use filing::LONGEST;
 use filing::RollAnswer;
 use filing::RollRefusal;
+use filing::grown;
 use weighing::Weighed;
 use weighing::weigh;
 
@@ -44,16 +45,6 @@ pub enum LookedOver {
         end: u32,
     },
     Refused(RollRefusal),
-}
-
-pub fn one_more(count: u32, more: bool) -> u32
-    requires { ⌜ count < longest ⌝ }
-    ensures { λ r. ⌜ r ≡ cond more (suc count) count ⌝ }
-{
-    if more {
-        return count + 1;
-    }
-    count
 }
 
 // Entry by entry, up to the first that is torn or breaks a rule.
@@ -86,8 +77,8 @@ fn judge(roll: &[u8]) -> Judgement
                 done: more_done,
             } => {
                 entries += 1;
-                filed = one_more(filed, more_filed);
-                done = one_more(done, more_done);
+                filed = grown(filed, more_filed);
+                done = grown(done, more_done);
                 at = next;
             }
         }

@@ -2,9 +2,11 @@
 // marked done.
 use crate::reading::READ;
 use crate::reading::more;
+use filing::Tally;
 use keeping::Entered;
 use keeping::done_entry;
 use keeping::file_entry;
+use keeping::with_entry;
 
 const JOBS: u8 = 20;
 
@@ -14,28 +16,32 @@ const ROUNDS: u8 = 10;
 // The bytes of a job's first text, which no later text has; so a reader of entries can tell by it where a job is filed first.
 pub const FIRST_TEXT: u32 = 17;
 
-// What has been built: the bytes in use, and how many entries were added or refused.
+// What has been built: the bytes in use, how many entries were added or refused, and the running tally.
 pub struct BuiltRoll {
     pub used: u32,
     pub added: u32,
     pub refused: u32,
+    pub tally: Tally,
 }
 
 // A refusal leaves the roll as long as it was.
 fn after(built: BuiltRoll, entered: Entered) -> BuiltRoll {
     let answer = entered.answer;
     let numbers = answer.numbers();
+    let tally = with_entry(built.tally, entered);
     if numbers.number == READ {
         return BuiltRoll {
             used: numbers.place,
             added: more(built.added),
             refused: built.refused,
+            tally,
         };
     }
     BuiltRoll {
         used: built.used,
         added: built.added,
         refused: more(built.refused),
+        tally,
     }
 }
 
@@ -126,6 +132,7 @@ pub fn build(roll: &mut [u8]) -> BuiltRoll {
         used: 0,
         added: 0,
         refused: 0,
+        tally: Tally { filed: 0, done: 0 },
     };
     let mut round = 0;
     while round < ROUNDS {

@@ -40,6 +40,8 @@ fn tell_roll(built: BuiltRoll, whole: RollNumbers) {
     tell(b"jobs filed", whole.filed);
     tell(b"jobs done", whole.done);
     tell(b"end", whole.place);
+    tell(b"jobs filed by the tally", built.tally.filed);
+    tell(b"jobs done by the tally", built.tally.done);
 }
 
 fn tell_cuts(cuts: Cuts) {

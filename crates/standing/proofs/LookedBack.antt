@@ -10,7 +10,7 @@ use Rattle.entries.specs.Entries.{EntryWithin, entry-at, next-told, says-told}
 use Rattle.entries.proofs.Parts.{Tells, entry-tells}
 use Rattle.filing.specs.Format.{Entry}
 use Rattle.filing.specs.Rules.{newest, says, standing}
-use Rattle.filing.specs.Standing.{EntriesStand}
+use Rattle.filing.specs.EntriesStand.{EntriesStand}
 use Rattle.filing.proofs.NextEntry.{NextEntry, next-entry, no-next-entry}
 use Rattle.filing.proofs.Format.{stands-within}
 use Rattle.standing.specs.Looking.{StandingWithin, standing-told}

@@ -6,7 +6,7 @@ ghost use lib.ListN.{length};
 ghost use Rattle.plan.specs.Services.{standard};
 ghost use Rattle.filing.specs.Format.{Entry};
 ghost use Rattle.filing.specs.Rules.{digits, is-finished, is-job, is-printed, newest, same, standing};
-ghost use Rattle.filing.specs.Standing.{EntriesStand};
+ghost use Rattle.filing.specs.EntriesStand.{EntriesStand};
 ghost use Rattle.entries.specs.Entries.{EntryWithin, SpanWithin, part, says-told};
 ghost use Rattle.standing.specs.Looking.{StandingWithin, standing-told};
 use entries::EntryAt;
@@ -62,7 +62,7 @@ pub fn is_printed(text: &[u8]) -> bool
 }
 
 // A text that CHECK accepts and whose plan has no ready operator.
-pub fn is_finished(text: &[u8]) -> bool
+pub fn reads_finished(text: &[u8]) -> bool
     ensures { λ r. ⌜ r ≡ is-finished standard (now (text .entry)) ⌝ }
 {
     match services::check(text) {

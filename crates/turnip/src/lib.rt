@@ -1,5 +1,5 @@
 // The services for programs in C and other languages: include/turnip.h declares and explains these functions. Each asks nothing
-// of its caller, calls its service and tells the answer by five numbers; its contract is the service's (specs/Stored.antt).
+// of its caller and tells the service's answer by five numbers; its contract is the service's (specs/Stored.antt, specs/Rolls.antt).
 ghost use mathlib.Core.Path.{_≡_};
 ghost use lib.ListN.{getD, set};
 ghost use Rattle.plan.specs.Services.{numbers};

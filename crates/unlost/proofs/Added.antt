@@ -121,7 +121,8 @@ module _ (buffer : List ℕ) (used : ℕ) (fault : List Entry → Option RollRef
     now-reads = rw (place, m .bytes) (put-reads parts few fits buffer used (m .read) (m .short) good (m .room))
 
     cut : (n : ℕ) → m .end ≤ n → n ≤ roll-numbers (a .answer) .place
-        → (e : ℕ) × (RollReads (take n (a .buffer)) (m .es) e ⊎ RollReads (take n (a .buffer)) (m .es ++ new-entry (m .end) parts ∷ []) e)
+        → let e = min n (torn-from n (m .es ++ new-entry (m .end) parts ∷ []) (roll-numbers (a .answer) .place)) in
+        RollReads (take n (a .buffer)) (m .es) e ⊎ RollReads (take n (a .buffer)) (m .es ++ new-entry (m .end) parts ∷ []) e
     cut n low high = go (one-whole n (new-entry (m .end) parts))
       where
         all : List Entry
@@ -139,9 +140,9 @@ module _ (buffer : List ℕ) (used : ℕ) (fault : List Entry → Option RollRef
         kept = whole-append n (m .es) (new-entry (m .end) parts ∷ []) ∙ ap (_++ whole-in n (new-entry (m .end) parts ∷ [])) (reads-all (take used buffer) (m .read) n low)
 
         go : (whole-in n (new-entry (m .end) parts ∷ []) ≡ new-entry (m .end) parts ∷ []) ⊎ (whole-in n (new-entry (m .end) parts ∷ []) ≡ [])
-            → (e : ℕ) × (RollReads (take n (a .buffer)) (m .es) e ⊎ RollReads (take n (a .buffer)) (m .es ++ new-entry (m .end) parts ∷ []) e)
-        go (inl w) = (end, inr (subst (λ es. RollReads (take n (a .buffer)) es end) (kept ∙ ap (m .es ++_) w) reads))
-        go (inr w) = (end, inl (subst (λ es. RollReads (take n (a .buffer)) es end) (kept ∙ ap (m .es ++_) w ∙ append-nil (m .es)) reads))
+            → RollReads (take n (a .buffer)) (m .es) end ⊎ RollReads (take n (a .buffer)) (m .es ++ new-entry (m .end) parts ∷ []) end
+        go (inl w) = inr (subst (λ es. RollReads (take n (a .buffer)) es end) (kept ∙ ap (m .es ++_) w) reads)
+        go (inr w) = inl (subst (λ es. RollReads (take n (a .buffer)) es end) (kept ∙ ap (m .es ++_) w ∙ append-nil (m .es)) reads)
 
     pub one-more : OneMore buffer used parts (a .answer) (a .buffer)
     one-more =

@@ -15,7 +15,7 @@ use Rattle.stored.specs.Counted.{FRONT}
 use Rattle.filing.specs.Answers.{edition-1, entry-bytes, longest, new-bytes, new-entry}
 use Rattle.filing.specs.Format.{Entry, entry}
 use Rattle.filing.specs.Rules.{broken, obeys, says}
-use Rattle.filing.specs.Standing.{EntriesStand}
+use Rattle.filing.specs.EntriesStand.{EntriesStand}
 use Rattle.filing.proofs.Format.{stands-on, stands-within}
 use Rattle.unlost.specs.Words.{RollReads, sections-size}
 use Rattle.unlost.proofs.Cut.{first-kept, kept-whole, nothing-cut}

@@ -16,7 +16,7 @@ use Rattle.stored.specs.Counted.{AtFront, CUT, FRONT, number, then-read}
 use Rattle.stored.proofs.Counted.{never}
 use Rattle.filing.specs.Format.{Entry, entry}
 use Rattle.filing.specs.Rules.{broken, obeys, says}
-use Rattle.filing.specs.Standing.{EntriesStand}
+use Rattle.filing.specs.EntriesStand.{EntriesStand}
 use Rattle.filing.proofs.Format.{stands-within}
 use Rattle.unlost.specs.Words.{RollReads, entry-end, sections-size, torn-from, whole-in}
 use Rattle.stored.proofs.Exact.{FoundFront}

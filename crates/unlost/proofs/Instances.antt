@@ -1,7 +1,7 @@
--- No word of the roll's theorems is empty: an instance of each, on one roll. P6's text, run to its end, is filed as job 7 and marked done;
+-- No word of the roll's theorems is empty: an instance of each, on one roll and on bytes that are none. P6's text, run to its end, is filed as job 7 and marked done;
 -- behind that, P7's text is filed as job 07, which cannot be marked done.
 use Prim.Native.Nat.{ℕ}
-use mathlib.Core.Path.{_≡_, refl}
+use mathlib.Core.Path.{_≡_, refl, ap, ap₂}
 use mathlib.Core.List.{List, [], _∷_, _++_}
 use native.Mathlib.Omega.{arith}
 use lib.ListN.{take, replicate}
@@ -54,7 +54,7 @@ use Rattle.filing.specs.Answers.{
   places,
   read-roll,
   roll-numbers,
-  runs,
+  sections-bytes,
   unbroken,
   unfinished,
   unless,
@@ -64,9 +64,10 @@ use Rattle.filing.specs.declared.RollRefusal.the-variants.{BadRoll, Unfinished}
 use Rattle.filing.specs.declared.Tally.{Tally}
 use Rattle.roll.specs.Calls.{Lists}
 use Rattle.keeping.specs.Calls.{Adds}
+use Rattle.turnip.specs.Rolls.{AddsStored, five-of-roll}
 use Rattle.demands.proofs.Instances as demanded
 use Rattle.demands.specs.Words.{READ}
-use Rattle.unlost.specs.Words.{HasText, ListedAs, OneMore, RollReads, TallyOf, Unchanged, Unlisted, entry-end, sections-size, torn-from, whole-in}
+use Rattle.unlost.specs.Words.{FiledLast, HasText, ListedAs, OneMore, RollReads, TallyOf, Unchanged, Unlisted, entry-end, sections-size, torn-from, whole-in}
 use Rattle.unlost.proofs.Cut.{cut-reads}
 use Rattle.unlost.proofs.DoneHasText.{done-has-text}
 use Rattle.unlost.proofs.Kept.{done-is-last, done-refused, filed-is-last}
@@ -114,8 +115,8 @@ pub calls : Adds (file edition-1 buffer 0 job ended) (tally 0 0) (Listed 1 1 0 2
     × Adds (close-job edition-1 one 24 job) (tally 1 0) (Listed 2 1 1 33) two (tally 1 1)
     × Adds (file edition-1 two 33 other-job p7) (tally 1 1) (Listed 3 2 1 60) three (tally 2 1)
     × Adds (close-job edition-1 three 60 other-job) (tally 2 1) (Refused (Unfinished 33)) three (tally 2 1)
-    × Lists (take 60 three) (replicate 4 9) (Listed 3 2 1 60) (1 ∷ 24 ∷ 33 ∷ 9 ∷ []) × Lists buffer [] (Refused (BadRoll 0)) []
-unfolding read-roll fill places file close-job add-to in-use judged by-rules unbroken unless no-room filing-fault closing-fault unfinished after-done grown new-bytes entry-bytes runs with-count four-bytes roll listing listed with-first entry sections counted number so-many then-read broken obeys says same digits is-job is-printed printed-as is-finished finished-as standing newest may-file may-close is-new counts-filed counts-done filed done finished is-none next outer inner first-block after-two under _else_ accept read read-from go-on move past-token fit class token-text if-allowed before-brace allowed all-permitted permits may-hold character value follows scalar well-formed cells labels print letter _then_ bytes
+    × Lists (take 60 three) (replicate 4 9) (Listed 3 2 1 60) (1 ∷ 24 ∷ 33 ∷ 9 ∷ []) × Lists buffer (replicate 4 9) (Refused (BadRoll 0)) (replicate 4 9)
+unfolding read-roll fill places file close-job add-to in-use judged by-rules unbroken unless no-room filing-fault closing-fault unfinished after-done grown new-bytes entry-bytes sections-bytes with-count four-bytes roll listing listed with-first entry sections counted number so-many then-read broken obeys says same digits is-job is-printed printed-as is-finished finished-as standing newest may-file may-close is-new counts-filed counts-done filed done finished is-none next outer inner first-block after-two under _else_ accept read read-from go-on move past-token fit class token-text if-allowed before-brace allowed all-permitted permits may-hold character value follows scalar well-formed cells labels print letter _then_ bytes
 calls = (
   record { answer = refl; bytes = refl; filed = refl; done = refl },
   record { answer = refl; bytes = refl; filed = refl; done = refl },
@@ -135,13 +136,23 @@ closing = record { place = 24; parts = job ∷ [] }
 abbrev later : Entry
 later = record { place = 33; parts = other-job ∷ p7 ∷ [] }
 
+-- the first of them over the C interface
+pub an-adding-stored : AddsStored (file edition-1 buffer 0 job ended) (0 ∷ 0 ∷ []) one (1 ∷ 0 ∷ []) (3 ∷ 1 ∷ 1 ∷ 0 ∷ 24 ∷ [])
+an-adding-stored =
+    record {
+      told = ap (λ r. five-of-roll (roll-numbers r)) (calls .0 .answer);
+      bytes = calls .0 .bytes;
+      counts = ap₂ (λ f d. f ∷ d ∷ []) (calls .0 .filed) (calls .0 .done);
+    }
+
 -- `RollReads`, of the whole and of a part that is cut in the last entry
 pub a-roll : RollReads (take 60 three) (filing ∷ closing ∷ later ∷ []) 60 × RollReads (take 59 three) (filing ∷ closing ∷ []) 33
+    × RollReads (take 24 one) (filing ∷ []) 24
 unfolding whole-in torn-from entry-end sections-size judged by-rules unbroken roll listing listed with-first entry sections counted number so-many then-read broken obeys says same digits is-job is-printed printed-as is-finished finished-as standing newest may-file may-close finished is-none next outer inner first-block after-two under _else_ accept read read-from go-on move past-token fit class token-text if-allowed before-brace allowed all-permitted permits may-hold character value follows scalar well-formed cells labels print letter _then_ bytes
-a-roll = (refl, cut-reads (take 60 three) {es = filing ∷ closing ∷ later ∷ []} {end = 60} refl 59)
+a-roll = (refl, cut-reads (take 60 three) {es = filing ∷ closing ∷ later ∷ []} {end = 60} refl 59, refl)
 
 -- `ListedAs` and `Unlisted`
-pub a-listing : ListedAs (filing ∷ closing ∷ later ∷ []) 60 (replicate 4 9) (Listed 3 2 1 60) (1 ∷ 24 ∷ 33 ∷ 9 ∷ []) × Unlisted [] (Refused (BadRoll 0)) []
+pub a-listing : ListedAs (filing ∷ closing ∷ later ∷ []) 60 (replicate 4 9) (Listed 3 2 1 60) (1 ∷ 24 ∷ 33 ∷ 9 ∷ []) × Unlisted (replicate 4 9) (Refused (BadRoll 0)) (replicate 4 9)
 a-listing = (reads-listed (calls .4) (filing ∷ closing ∷ later ∷ []) 60 (a-roll .0) (omega arith), read-refused (calls .5) (λ e. omega arith))
 
 -- `HasText`: the DONE stands behind its text
@@ -166,7 +177,12 @@ tallies = (
   record { jobs-filed = refl; jobs-done = refl },
 )
 
--- and a run's DONE text, filed and marked done
+-- `FiledLast`; and a run's DONE text, filed and marked done
+pub a-last-filing : FiledLast job ended (filing ∷ []) 1
+unfolding standing newest says same bytes
+a-last-filing = refl
+
 pub a-run-marked-done : roll-numbers (Listed 2 1 1 33) .number ≡ READ
 unfolding bytes
-a-run-marked-done = done-can-be-marked (demanded.calls .0) (demanded.a-done-run .0) buffer 0 job (calls .0) refl (calls .1) refl (λ e. omega arith)
+a-run-marked-done =
+    done-can-be-marked (demanded.calls .0) (demanded.a-done-run .0) one 24 job (a-roll .2) a-last-filing (omega arith) (calls .1) refl (λ e. omega arith)

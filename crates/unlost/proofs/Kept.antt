@@ -11,6 +11,7 @@ use Rattle.plan.specs.Services.{standard}
 use Rattle.plan.proofs.Tests.{never}
 use Rattle.filing.specs.Answers.{Added, add-to, after-done, close-job, closing-fault, edition-1, file, filing-fault, grown, in-use, longest, new-entry, roll-numbers, unfinished}
 use Rattle.filing.specs.Format.{Entry}
+use Rattle.filing.proofs.Growing.{grown-below}
 use Rattle.filing.specs.Rules.{DONE-AT, FILED-AT, JobStanding, UNFILED, counts-done, counts-filed, done, filed, is-finished, is-job, is-printed, may-close, may-file, obeys, says, standing}
 use Rattle.filing.specs.declared.RollAnswer.{RollAnswer}
 use Rattle.filing.specs.declared.RollRefusal.{RollRefusal}
@@ -61,17 +62,12 @@ done-right past job e =
     go false s h = never cc
 
 -- no roll has so many jobs that a count would stop
-counts-few : (roll : List ℕ) {es : List Entry} {end : ℕ} → RollReads roll es end → length roll ≤ longest → length es < longest
+pub counts-few : (roll : List ℕ) {es : List Entry} {end : ℕ} → RollReads roll es end → length roll ≤ longest → length es < longest
 counts-few roll {es} {end} r short = go (reads-sound roll r)
   where
     go : Blank roll es end ⊎ SoundRoll roll es end → length es < longest
     go (inl b) = omega (arith, ap length (b .no-entries))
     go (inr s) = omega (arith, entries-few roll 1 end es (s .stand), s .within)
-
-grown-is : (more : Bool) (n k : ℕ) → n ≤ k → k < longest → grown more n ≡ cond more (suc n) n
-unfolding grown
-grown-is true n k h l = let e : min (n + 1) longest ≡ suc n = omega arith in e
-grown-is false n k h l = refl
 
 module _ (buffer : List ℕ) (used : ℕ) (fault : List Entry → Option RollRefusal) (parts : List (List ℕ)) (right : (past : List Entry) → fault past ≡ none → Right past parts)
     {tally : Tally} {r : RollAnswer} {buffer′ : List ℕ} {tally′ : Tally} (call : Adds (add-to edition-1 buffer (in-use edition-1 buffer used) fault parts) tally r buffer′ tally′) where
@@ -99,9 +95,9 @@ module _ (buffer : List ℕ) (used : ℕ) (fault : List Entry → Option RollRef
       let turned = reverse-append es (new-entry end parts ∷ []) in
       let by-filed : tally′ .filed ≡ cond (counts-filed (reverse es) (says parts)) (suc (filed (reverse es))) (filed (reverse es)) =
       call .filed ∙ ap₂ grown (m .more-filed ∙ ap (λ (fs : List Entry). counts-filed (reverse fs) (says parts)) same-es) (t .jobs-filed)
-      ∙ grown-is (counts-filed (reverse es) (says parts)) (filed (reverse es)) (length es) (omega (arith, filed-at-most (reverse es), length-reverse es)) few in
+      ∙ grown-below (counts-filed (reverse es) (says parts)) (filed (reverse es)) (omega (arith, filed-at-most (reverse es), length-reverse es, few)) in
       let by-done : tally′ .done ≡ cond (counts-done (says parts)) (suc (done (reverse es))) (done (reverse es)) =
-      call .done ∙ ap₂ grown (m .more-done) (t .jobs-done) ∙ grown-is (counts-done (says parts)) (done (reverse es)) (length es) (omega (arith, done-at-most (reverse es), length-reverse es)) few in
+      call .done ∙ ap₂ grown (m .more-done) (t .jobs-done) ∙ grown-below (counts-done (says parts)) (done (reverse es)) (omega (arith, done-at-most (reverse es), length-reverse es, few)) in
       record { jobs-filed = by-filed ∙ ap filed (sym turned); jobs-done = by-done ∙ ap done (sym turned) }
 
   entry-refused : roll-numbers r .number ≢ READ → Unchanged buffer tally r buffer′ tally′

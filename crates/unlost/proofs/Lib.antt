@@ -8,3 +8,4 @@ pub mod Kept
 pub mod Listed
 pub mod OneAnswer
 pub mod RunsFiled
+pub mod StoredCalls

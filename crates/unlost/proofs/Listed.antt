@@ -73,16 +73,7 @@ module _ {roll list : List ℕ} {r : RollAnswer} {list′ : List ℕ} (call : Li
       go (REFUSES q) h = kept q (ap (λ j. fill j list) h)
       go (READS es end) h = by-room es end h (leb (length es) (length list)) refl
 
--- the cut: every front part of a roll that reads is read, and never refused, with a list long enough for the whole
-whole-few : (n : ℕ) (es : List Entry) → length (whole-in n es) ≤ length es
-unfolding whole-in
-whole-few n [] = omega arith
-whole-few n (e ∷ es) = go (leb (entry-end e) n) (whole-few n es)
-  where
-    go : (t : Bool) → length (whole-in n es) ≤ length es → length (cond t (e ∷ whole-in n es) (whole-in n es)) ≤ suc (length es)
-    go true h = omega arith
-    go false h = omega arith
-
+-- the cut: every front part of a roll that reads is read, and never refused, with a list long enough for its entries
 pub cut-listed : (roll : List ℕ) (es : List Entry) (end : ℕ) → RollReads roll es end → (n : ℕ) {list : List ℕ} {r : RollAnswer} {list′ : List ℕ} → Lists (take n roll) list r list′
-    → length es ≤ length list → ListedAs (whole-in n es) (min n (torn-from n es end)) list r list′
-cut-listed roll es end reads n call room = reads-listed call (whole-in n es) (min n (torn-from n es end)) (cut-reads roll reads n) (omega (arith, whole-few n es))
+    → length (whole-in n es) ≤ length list → ListedAs (whole-in n es) (min n (torn-from n es end)) list r list′
+cut-listed roll es end reads n call room = reads-listed call (whole-in n es) (min n (torn-from n es end)) (cut-reads roll reads n) room

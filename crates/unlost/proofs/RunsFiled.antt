@@ -1,14 +1,14 @@
 -- A run's DONE text, filed, can be marked done; a run's QUOTA or FULL text cannot. Said of RUN's own answers.
 use Prim.Native.Nat.{ℕ, _+_, _≤_, _<_}
 use mathlib.Core.Path.{_≡_, refl, ap, sym, subst, _∙_}
-use mathlib.Core.Logic.{_≢_, _↔_}
-use mathlib.Core.Bool.{Bool, true, false, cond}
-use mathlib.Core.Option.{none, some}
-use mathlib.Core.List.{List, [], _∷_, _++_, reverse, reverse-append}
+use mathlib.Core.Logic.{_≢_, _↔_, _⊎_, inl, inr}
+use mathlib.Core.Bool.{Bool, true, false, cond, _&&_}
+use mathlib.Core.Option.{none, some, Option}
+use mathlib.Core.List.{List, [], _∷_, _++_, reverse, reverse-append, reverseAux}
 use native.Mathlib.Omega.{arith}
 use native.Mathlib.Decide.{decLt}
 use borrow.Author.Tests.{le-ltb}
-use lib.ListN.{length}
+use lib.ListN.{length, take}
 use Rattle.kinds.specs.Limits.{cellLimit}
 use Rattle.plan.specs.Plan.{print}
 use Rattle.plan.specs.Rewriting.{finished}
@@ -16,41 +16,29 @@ use Rattle.plan.specs.Services.{numbers, standard}
 use Rattle.plan.specs.declared.Answer.{Answer}
 use Rattle.plan.proofs.Plans.{print-relabel}
 use Rattle.plan.proofs.Rewrites.{finished-relabel, finished-when}
-use Rattle.plan.proofs.Tests.{never}
+use Rattle.plan.proofs.Tests.{never, and-true, false-is-not-true}
 use Rattle.pieces.proofs.Putting.{put-long}
-use Rattle.filing.specs.Answers.{
-  Added,
-  READS,
-  add-to,
-  after-done,
-  close-job,
-  closing-fault,
-  edition-1,
-  file,
-  filing-fault,
-  in-use,
-  longest,
-  new-bytes,
-  new-entry,
-  roll-numbers,
-  unfinished,
-}
-use Rattle.filing.proofs.Adding.{entry-made, fault-first, room-last}
-use Rattle.filing.proofs.Same.{same-self}
-use Rattle.filing.specs.Format.{Entry}
-use Rattle.filing.specs.Rules.{finished-as, is-finished, is-job, is-printed, newest, printed-as, same, says, standing}
+use Rattle.filing.specs.Answers.{Added, READS, add-to, after-done, close-job, closing-fault, edition-1, file, filing-fault, in-use, longest, new-bytes, new-entry, roll-numbers, unfinished, Edition, Judged, REFUSES, by-rules, judged, roll-refusal-number, unbroken}
+use Rattle.filing.proofs.Adding.{entry-made, fault-first, room-last, roll-first}
+use Rattle.filing.proofs.Same.{same-self, same-equal}
+use Rattle.filing.specs.Format.{Entry, Listing, roll}
+use Rattle.filing.specs.Rules.{finished-as, is-finished, is-job, is-printed, newest, printed-as, same, says, standing, DONE, DONE-AT, EntrySays, FILED, FILED-AT, JobStanding, NEITHER, UNFILED, broken, may-file, obeys}
 use Rattle.filing.specs.declared.RollAnswer.{RollAnswer}
-use Rattle.filing.specs.declared.RollRefusal.the-variants.{BadJob, BadText, Unfinished}
+use Rattle.filing.specs.declared.RollRefusal.the-variants.{BadJob, BadText, Unfinished, AlreadyDone, BadRoll, TooLong}
 use Rattle.filing.specs.declared.Tally.{Tally}
 use Rattle.services.specs.Calls.{Runs}
 use Rattle.keeping.specs.Calls.{Adds}
 use Rattle.demands.specs.Words.{Bare, NoRuleApplies, READ, Reads, Rewritten, Unrefused, lent, saved}
 use Rattle.demands.specs.Words as demanded
 use Rattle.demands.proofs.Endings.{done-exactly-when, reads-rewrites-prints, text-reads-back}
-use Rattle.demands.proofs.Meanings.{reads-sound, reads-with-more, sound-cells}
-use Rattle.unlost.specs.Words.{NOROOM, OneMore, UNFINISHED}
+use Rattle.demands.proofs.Meanings.{reads-with-more, sound-cells}
+use Rattle.demands.proofs.Meanings as meanings
+use Rattle.unlost.specs.Words.{NOROOM, OneMore, UNFINISHED, BADTEXT, FiledLast, RollReads}
 use Rattle.unlost.proofs.Added.{Made}
 use Rattle.unlost.proofs.Kept.{filed-is-last, filed-right, was-made}
+use Rattle.filing.specs.declared.RollRefusal.{RollRefusal}
+use Rattle.filing.proofs.Sound.{Blank, SoundRoll, reads-sound}
+use lib.Dec.{ltb}
 
 -- a text that is its plan's printed text
 module _ {text : List ℕ} {q : Bare} (reads : Reads cellLimit text q) where
@@ -67,77 +55,146 @@ module _ {text : List ℕ} {q : Bare} (reads : Reads cellLimit text q) where
       let alike : finished q ≡ finished (reads .placed) = ap finished (sym (reads .same)) ∙ finished-relabel (λ l. tt) (reads .placed) in
       (λ e. finished-when q .0 (alike ∙ sym told ∙ e), λ stuck. told ∙ sym alike ∙ finished-when q .1 stuck)
 
--- a text that was filed: closing its job then asks of it only that it is finished
-module _ (past : List Entry) (job text : List ℕ) (end : ℕ) where
-  filed-job : filing-fault standard past job text ≡ none → is-job job ≡ true
-  unfolding filing-fault
-  filed-job e = go (is-job job) e
+-- in a roll that reads, the job of a FILED is a job number
+module _ (job : List ℕ) where
+  abbrev IfFiled : List Entry → Type 0
+  IfFiled past = (place : ℕ) (text : List ℕ) → standing job past ≡ FILED-AT place text → is-job job ≡ true
+
+  -- one entry more
+  filed-here : (past : List Entry) (f : Entry) → obeys standard past (says (f .parts)) ≡ true → IfFiled past → IfFiled (f ∷ past)
+  unfolding standing newest obeys
+  filed-here past f good before place text e = by (says (f .parts)) good e
     where
-      go : (t : Bool) → cond t (cond (is-printed standard text) (after-done (standing job past)) (some BadText)) (some BadJob) ≡ none → t ≡ true
-      go true h = refl
-      go false h = never cc
+      its : (j t : List ℕ) → obeys standard past (FILED j t) ≡ true → is-job j ≡ true
+      its j t good = and-true (is-job j) (is-printed standard t) (and-true (is-job j && is-printed standard t) (may-file (standing j past)) good .0) .0
 
-  closing : filing-fault standard past job text ≡ none
-      → closing-fault standard (new-entry end (job ∷ text ∷ []) ∷ past) job ≡ cond (is-finished standard text) none (some (Unfinished (new-entry end (job ∷ text ∷ []) .place)))
-  unfolding closing-fault unfinished standing newest says
-  closing e = rw (filed-job e, same-self job) refl
+      by-filed : (j t : List ℕ) → obeys standard past (FILED j t) ≡ true → (b : Bool) → same j job ≡ b → cond b (FILED-AT (f .place) t) (standing job past) ≡ FILED-AT place text → is-job job ≡ true
+      by-filed j t good true is e = ap is-job (sym (same-equal j job is)) ∙ its j t good
+      by-filed j t good false is e = before place text e
 
-module _ (buffer : List ℕ) (used : ℕ) (job text : List ℕ) {tally : Tally} {a : RollAnswer} {buffer₁ : List ℕ} {tally₁ : Tally}
-    (filing : Adds (file edition-1 buffer used job text) tally a buffer₁ tally₁) (filed : roll-numbers a .number ≡ READ) where
-  made : Made buffer used (λ past. filing-fault standard past job text) (job ∷ text ∷ []) (file edition-1 buffer used job text)
-  unfolding file
-  made = was-made buffer used (λ past. filing-fault standard past job text) (job ∷ text ∷ []) (λ past. filed-right past job text) filing filed
+      by-done : (b : Bool) → cond b (DONE-AT (f .place)) (standing job past) ≡ FILED-AT place text → is-job job ≡ true
+      by-done true e = never cc
+      by-done false e = before place text e
 
-  it : OneMore buffer used (job ∷ text ∷ []) a buffer₁
-  it = filed-is-last buffer used job text filing filed
+      by : (x : EntrySays) → obeys standard past x ≡ true → newest job (f .place) x (standing job past) ≡ FILED-AT place text → is-job job ≡ true
+      by (FILED j t) good e = by-filed j t good (same j job) refl e
+      by (DONE j) good e = by-done (same j job) e
+      by NEITHER good e = before place text e
 
-  same-es : made .es ≡ it .es
-  same-es = let x = sym (made .read) ∙ it .read in cc
+  filed-is-job : (past es : List Entry) → broken standard past es ≡ none → IfFiled past → IfFiled (reverseAux es past)
+  unfolding broken
+  filed-is-job past [] h before = before
+  filed-is-job past (f ∷ es) h before = go (obeys standard past (says (f .parts))) refl h (filed-is-job (f ∷ past) es)
+    where
+      go : (b : Bool) → obeys standard past (says (f .parts)) ≡ b → cond b (broken standard (f ∷ past) es) (some (f .place)) ≡ none
+          → (broken standard (f ∷ past) es ≡ none → IfFiled (f ∷ past) → IfFiled (reverseAux es (f ∷ past))) → IfFiled (reverseAux es (f ∷ past))
+      go true good h later = later h (filed-here past f good before)
+      go false good h later = never cc
 
-  short₁ : length buffer₁ ≤ longest
-  short₁ = omega (arith, made .short, ap length (filing .bytes ∙ made .bytes), put-long buffer (made .end) (new-bytes edition-1 (made .end) (job ∷ text ∷ [])) (made .room))
+-- closing a job whose last entry is a FILED asks of its text only that it is finished, and then for room
+module _ (buffer : List ℕ) (used : ℕ) (job text : List ℕ) {es : List Entry} {end place : ℕ} (reads : RollReads (take used buffer) es end) (last : FiledLast job text es place)
+    (short : length buffer ≤ longest) {tally : Tally} {b : RollAnswer} {buffer′ : List ℕ} {tally′ : Tally} (call : Adds (close-job edition-1 buffer used job) tally b buffer′ tally′) where
+  its-job : is-job job ≡ true
+  unfolding standing
+  its-job = go (reads-sound (take used buffer) reads)
+    where
+      nobody : (place : ℕ) (text : List ℕ) → standing job [] ≡ FILED-AT place text → is-job job ≡ true
+      nobody p t e = never cc
 
-  again : in-use edition-1 buffer₁ (roll-numbers a .place) ≡ READS (it .es ++ new-entry (it .end) (job ∷ text ∷ []) ∷ []) (roll-numbers a .place)
-  unfolding in-use
-  again = rw (le-ltb longest (length buffer₁) short₁) (it .reads-now)
+      go : Blank (take used buffer) es end ⊎ SoundRoll (take used buffer) es end → is-job job ≡ true
+      go (inl x) = nobody place text (sym (ap (λ fs. standing job (reverse fs)) (x .no-entries)) ∙ last)
+      go (inr s) = filed-is-job job [] es (s .obeyed) nobody place text last
 
-  -- the entries that are there, and what is wrong with closing the job behind them
-  abbrev there : List Entry
-  there = it .es ++ new-entry (it .end) (job ∷ text ∷ []) ∷ []
+  fault : closing-fault standard (reverse es) job ≡ cond (is-finished standard text) none (some (Unfinished place))
+  unfolding closing-fault unfinished
+  fault = rw (its-job, last) refl
 
-  fault : closing-fault standard (reverse there) job ≡ cond (is-finished standard text) none (some (Unfinished (new-entry (it .end) (job ∷ text ∷ []) .place)))
-  fault =
-      let fine = subst (λ (es : List Entry). filing-fault standard (reverse es) job text ≡ none) same-es (made .fine) in
-      ap (λ (past : List Entry). closing-fault standard past job) (reverse-append (it .es) (new-entry (it .end) (job ∷ text ∷ []) ∷ []))
-      ∙ closing (reverse (it .es)) job text (it .end) fine
+  told : {x : Added} → add-to edition-1 buffer (READS es end) (λ past. closing-fault standard past job) (job ∷ []) ≡ x → b ≡ x .answer
+  unfolding close-job in-use
+  told e =
+      let used-is : in-use edition-1 buffer used ≡ READS es end = rw (le-ltb longest (length buffer) short) reads in
+      call .answer ∙ ap (λ (x : Added). x .answer) (ap (λ j. add-to edition-1 buffer j (λ past. closing-fault standard past job) (job ∷ [])) used-is ∙ e)
 
-  closed : close-job edition-1 buffer₁ (roll-numbers a .place) job ≡ add-to edition-1 buffer₁ (READS there (roll-numbers a .place)) (λ past. closing-fault standard past job) (job ∷ [])
-  unfolding close-job
-  closed = ap (λ j. add-to edition-1 buffer₁ j (λ past. closing-fault standard past job) (job ∷ [])) again
+  finished-closes : is-finished standard text ≡ true → roll-numbers b .number ≢ NOROOM → roll-numbers b .number ≡ READ
+  finished-closes e room = go (decLt (length buffer) (end + length (new-bytes edition-1 end (job ∷ []))))
+    where
+      fine : closing-fault standard (reverse es) job ≡ none
+      fine = fault ∙ rw e refl
 
-  module _ {tally₂ : Tally} {b : RollAnswer} {buffer₂ : List ℕ} {tally₃ : Tally} (closes : Adds (close-job edition-1 buffer₁ (roll-numbers a .place) job) tally₂ b buffer₂ tally₃) where
-    told : {x : Added} → add-to edition-1 buffer₁ (READS there (roll-numbers a .place)) (λ past. closing-fault standard past job) (job ∷ []) ≡ x → b ≡ x .answer
-    told e = closes .answer ∙ ap (λ (x : Added). x .answer) (closed ∙ e)
+      go : Dec (length buffer < end + length (new-bytes edition-1 end (job ∷ []))) → roll-numbers b .number ≡ READ
+      go (no h) = ap (λ (x : RollAnswer). roll-numbers x .number) (told (entry-made edition-1 buffer (λ past. closing-fault standard past job) (job ∷ []) es end fine (omega arith)))
+      go (yes h) =
+          absurd (room (ap (λ (x : RollAnswer). roll-numbers x .number) (told (room-last edition-1 buffer (λ past. closing-fault standard past job) (job ∷ []) es end fine h))))
 
-    finished-closes : is-finished standard text ≡ true → roll-numbers b .number ≢ NOROOM → roll-numbers b .number ≡ READ
-    finished-closes e room = go (decLt (length buffer₁) (roll-numbers a .place + length (new-bytes edition-1 (roll-numbers a .place) (job ∷ []))))
-      where
-        fine : closing-fault standard (reverse there) job ≡ none
-        fine = fault ∙ rw e refl
+  unfinished-stays : is-finished standard text ≡ false → (roll-numbers b .number ≡ UNFINISHED) × (roll-numbers b .place ≡ place)
+  unfinished-stays e =
+      let wrong : closing-fault standard (reverse es) job ≡ some (Unfinished place) = fault ∙ rw e refl in
+      let so = told (fault-first edition-1 buffer (λ past. closing-fault standard past job) (job ∷ []) es end wrong) in
+      (ap (λ (x : RollAnswer). roll-numbers x .number) so, ap (λ (x : RollAnswer). roll-numbers x .place) so)
 
-        go : Dec (length buffer₁ < roll-numbers a .place + length (new-bytes edition-1 (roll-numbers a .place) (job ∷ []))) → roll-numbers b .number ≡ READ
-        go (no h) =
-            ap (λ (x : RollAnswer). roll-numbers x .number)
-            (told (entry-made edition-1 buffer₁ (λ past. closing-fault standard past job) (job ∷ []) there (roll-numbers a .place) fine (omega arith)))
-        go (yes h) =
-            absurd (room (ap (λ (x : RollAnswer). roll-numbers x .number)
-            (told (room-last edition-1 buffer₁ (λ past. closing-fault standard past job) (job ∷ []) there (roll-numbers a .place) fine h))))
+-- what was filed is its job's last entry
+pub filed-stands-last : (buffer : List ℕ) (used : ℕ) (job text : List ℕ) {tally : Tally} {a : RollAnswer} {buffer′ : List ℕ} {tally′ : Tally}
+    → (call : Adds (file edition-1 buffer used job text) tally a buffer′ tally′) → (added : roll-numbers a .number ≡ READ)
+    → let o = filed-is-last buffer used job text call added in
+    FiledLast job text (o .es ++ new-entry (o .end) (job ∷ text ∷ []) ∷ []) (new-entry (o .end) (job ∷ text ∷ []) .place)
+unfolding standing newest says
+filed-stands-last buffer used job text call added =
+    let o = filed-is-last buffer used job text call added in
+    ap (standing job) (reverse-append (o .es) (new-entry (o .end) (job ∷ text ∷ []) ∷ [])) ∙ rw (same-self job) refl
 
-    unfinished-stays : is-finished standard text ≡ false → (roll-numbers b .number ≡ UNFINISHED) × (roll-numbers b .place ≡ new-entry (it .end) (job ∷ text ∷ []) .place)
-    unfinished-stays e =
-        let wrong : closing-fault standard (reverse there) job ≡ some (Unfinished (new-entry (it .end) (job ∷ text ∷ []) .place)) = fault ∙ rw e refl in
-        let so = told (fault-first edition-1 buffer₁ (λ past. closing-fault standard past job) (job ∷ []) there (roll-numbers a .place) wrong) in
-        (ap (λ (x : RollAnswer). roll-numbers x .number) so, ap (λ (x : RollAnswer). roll-numbers x .place) so)
+-- filing a printed text is refused for other reasons, if at all
+refused-roll : (ed : Edition) (bytes : List ℕ) {q : RollRefusal} → judged ed bytes ≡ REFUSES q → roll-refusal-number q ≢ BADTEXT
+unfolding judged by-rules unbroken
+refused-roll ed bytes {q} e = by-length (ltb longest (length bytes)) e
+  where
+    by-rule : (l : Listing) (x : Option ℕ) → unbroken x l ≡ REFUSES q → roll-refusal-number q ≢ BADTEXT
+    by-rule l none e n = never cc
+    by-rule l (some p) e n = let is : BadRoll p ≡ q = cc in omega (arith, ap roll-refusal-number is, n)
+
+    by-bytes : (x : Option Listing) → by-rules (ed .limits) x ≡ REFUSES q → roll-refusal-number q ≢ BADTEXT
+    by-bytes none e n = let is : BadRoll 0 ≡ q = cc in omega (arith, ap roll-refusal-number is, n)
+    by-bytes (some l) e n = by-rule l (broken (ed .limits) [] (l .entries)) e n
+
+    by-length : (t : Bool) → cond t (REFUSES TooLong) (by-rules (ed .limits) (roll (ed .first) bytes)) ≡ REFUSES q → roll-refusal-number q ≢ BADTEXT
+    by-length true e n = let is : TooLong ≡ q = cc in omega (arith, ap roll-refusal-number is, n)
+    by-length false e n = by-bytes (roll (ed .first) bytes) e n
+
+module _ (buffer : List ℕ) (used : ℕ) (job text : List ℕ) (printed : is-printed standard text ≡ true) where
+  by-fault : (past : List Entry) {q : RollRefusal} → filing-fault standard past job text ≡ some q → roll-refusal-number q ≢ BADTEXT
+  unfolding filing-fault after-done
+  by-fault past {q} e = go (is-job job) (is-printed standard text) (standing job past) printed e
+    where
+      go : (a t : Bool) (s : JobStanding) → t ≡ true → cond a (cond t (after-done s) (some BadText)) (some BadJob) ≡ some q → roll-refusal-number q ≢ BADTEXT
+      go false t s p e n = let is : BadJob ≡ q = cc in omega (arith, ap roll-refusal-number is, n)
+      go true false s p e n = false-is-not-true p
+      go true true UNFILED p e n = never cc
+      go true true (FILED-AT x y) p e n = never cc
+      go true true (DONE-AT x) p e n = let is : AlreadyDone x ≡ q = cc in omega (arith, ap roll-refusal-number is, n)
+
+  not-badtext : (j : Judged) → ((q : RollRefusal) → j ≡ REFUSES q → roll-refusal-number q ≢ BADTEXT)
+      → roll-numbers (add-to edition-1 buffer j (λ past. filing-fault standard past job text) (job ∷ text ∷ []) .answer) .number ≢ BADTEXT
+  not-badtext (REFUSES q) other = rw (roll-first edition-1 buffer (λ past. filing-fault standard past job text) (job ∷ text ∷ []) q) (other q refl)
+  not-badtext (READS es end) other = go (filing-fault standard (reverse es) job text) refl (decLt (length buffer) (end + length (new-bytes edition-1 end (job ∷ text ∷ []))))
+    where
+      fault : List Entry → Option RollRefusal
+      fault past = filing-fault standard past job text
+
+      go : (x : Option RollRefusal) → filing-fault standard (reverse es) job text ≡ x → Dec (length buffer < end + length (new-bytes edition-1 end (job ∷ text ∷ [])))
+          → roll-numbers (add-to edition-1 buffer (READS es end) fault (job ∷ text ∷ []) .answer) .number ≢ BADTEXT
+      go (some q) e d = rw (fault-first edition-1 buffer fault (job ∷ text ∷ []) es end e) (by-fault (reverse es) e)
+      go none e (yes h) = rw (room-last edition-1 buffer fault (job ∷ text ∷ []) es end e h) (λ n. omega (arith, n))
+      go none e (no h) = rw (entry-made edition-1 buffer fault (job ∷ text ∷ []) es end e (omega arith)) (λ n. omega (arith, n))
+
+  printed-not-refused : {tally : Tally} {a : RollAnswer} {buffer′ : List ℕ} {tally′ : Tally} → Adds (file edition-1 buffer used job text) tally a buffer′ tally′ → roll-numbers a .number ≢ BADTEXT
+  unfolding file in-use
+  printed-not-refused call n =
+      by-length (ltb longest (length buffer)) (sym (ap (λ (x : RollAnswer). roll-numbers x .number) (call .answer)) ∙ n)
+    where
+      by-length : (t : Bool)
+          → roll-numbers (add-to edition-1 buffer (cond t (REFUSES TooLong) (judged edition-1 (take used buffer))) (λ past. filing-fault standard past job text) (job ∷ text ∷ []) .answer) .number ≡ BADTEXT
+          → ⊥
+      by-length true e = not-badtext (REFUSES TooLong) (λ q is n. let same : TooLong ≡ q = cc in omega (arith, ap roll-refusal-number same, n)) e
+      by-length false e = not-badtext (judged edition-1 (take used buffer)) (λ q is. refused-roll edition-1 (take used buffer) is) e
 
 -- the text that a run saved
 module _ {text : List ℕ} {quota : ℕ} {memory out : List ℕ} {r : Answer} {memory′ out′ : List ℕ} (call : Runs text quota memory out r memory′ out′) (unrefused : Unrefused r) where
@@ -145,7 +202,7 @@ module _ {text : List ℕ} {quota : ℕ} {memory out : List ℕ} {r : Answer} {m
   its = reads-rewrites-prints call unrefused
 
   reads : Reads cellLimit (saved r out′) (its .0)
-  reads = let back = text-reads-back call unrefused (its .1) in let few = sound-cells (reads-sound back) in reads-with-more cellLimit (few .1) (omega arith) back
+  reads = let back = text-reads-back call unrefused (its .1) in let few = sound-cells (meanings.reads-sound back) in reads-with-more cellLimit (few .1) (omega arith) back
 
   pub saved-is-printed : is-printed standard (saved r out′) ≡ true
   saved-is-printed = printed-is reads (its .2)
@@ -156,16 +213,21 @@ module _ {text : List ℕ} {quota : ℕ} {memory out : List ℕ} {r : Answer} {m
       let f = is-finished-when reads in
       (λ e. f .1 (d .0 e), λ e. d .1 (f .0 e))
 
-  module _ (buffer : List ℕ) (used : ℕ) (job : List ℕ) {tally : Tally} {a : RollAnswer} {buffer₁ : List ℕ} {tally₁ : Tally}
-      (filing : Adds (file edition-1 buffer used job (saved r out′)) tally a buffer₁ tally₁) (filed : roll-numbers a .number ≡ READ)
-      {tally₂ : Tally} {b : RollAnswer} {buffer₂ : List ℕ} {tally₃ : Tally} (closing : Adds (close-job edition-1 buffer₁ (roll-numbers a .place) job) tally₂ b buffer₂ tally₃) where
-    -- its text can be marked done, where there is room
+  -- its text is not refused as one
+  pub run-can-be-filed : (buffer : List ℕ) (used : ℕ) (job : List ℕ) {tally : Tally} {a : RollAnswer} {buffer′ : List ℕ} {tally′ : Tally}
+      → Adds (file edition-1 buffer used job (saved r out′)) tally a buffer′ tally′ → roll-numbers a .number ≢ BADTEXT
+  run-can-be-filed buffer used job filing = printed-not-refused buffer used job (saved r out′) saved-is-printed filing
+
+  -- in every roll where it is the last that was filed of a job:
+  module _ (buffer : List ℕ) (used : ℕ) (job : List ℕ) {es : List Entry} {end place : ℕ} (reads-so : RollReads (take used buffer) es end) (last : FiledLast job (saved r out′) es place)
+      (short : length buffer ≤ longest) {tally : Tally} {b : RollAnswer} {buffer′ : List ℕ} {tally′ : Tally} (closing : Adds (close-job edition-1 buffer used job) tally b buffer′ tally′) where
+    -- a DONE text can be marked done, where there is room
     pub done-can-be-marked : numbers r .number ≡ demanded.DONE → roll-numbers b .number ≢ NOROOM → roll-numbers b .number ≡ READ
-    done-can-be-marked e = finished-closes buffer used job (saved r out′) filing filed closing (saved-finished .0 e)
+    done-can-be-marked e = finished-closes buffer used job (saved r out′) reads-so last short closing (saved-finished .0 e)
 
     -- and no other can
-    pub others-cannot : numbers r .number ≢ demanded.DONE → roll-numbers b .number ≡ UNFINISHED
-    others-cannot e = unfinished-stays buffer used job (saved r out′) filing filed closing (go (is-finished standard (saved r out′)) refl) .0
+    pub others-cannot : numbers r .number ≢ demanded.DONE → (roll-numbers b .number ≡ UNFINISHED) × (roll-numbers b .place ≡ place)
+    others-cannot e = unfinished-stays buffer used job (saved r out′) reads-so last short closing (go (is-finished standard (saved r out′)) refl)
       where
         go : (t : Bool) → is-finished standard (saved r out′) ≡ t → is-finished standard (saved r out′) ≡ false
         go true h = absurd (e (saved-finished .1 h))

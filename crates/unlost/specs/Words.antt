@@ -1,5 +1,5 @@
 -- The words of the roll's theorems.
-use Prim.Native.Nat.{ℕ, _+_, _≤_}
+use Prim.Native.Nat.{ℕ, _+_, _≤_, min}
 use mathlib.Core.Path.{_≡_}
 use mathlib.Core.Logic.{_⊎_}
 use mathlib.Core.Bool.{Bool, false, cond}
@@ -10,7 +10,7 @@ use Rattle.filing.specs.Answers.{READS, edition-1, judged, listed-as, new-entry
 use Rattle.filing.specs.Format.{Entry}
 use Rattle.filing.specs.declared.RollAnswer.{RollAnswer}
 use Rattle.filing.specs.declared.Tally.{Tally}
-use Rattle.filing.specs.Rules.{done, filed, EntrySays, FILED, DONE, NEITHER, same, says}
+use Rattle.filing.specs.Rules.{done, filed, EntrySays, FILED, FILED-AT, DONE, NEITHER, same, says, standing}
 use Rattle.kinds.specs.Limits.{cellLimit}
 use Rattle.demands.specs.Words.{Bare, NoRuleApplies, Reads}
 
@@ -76,8 +76,12 @@ pub record TallyOf (tally : Tally) (es : List Entry) : Type 0 where
   pub jobs-filed : tally .filed ≡ filed (reverse es)
   pub jobs-done : tally .done ≡ done (reverse es)
 
+-- the last entry of that job is a FILED of this text, at that place
+abbrev pub FiledLast : (job text : List ℕ) → List Entry → (place : ℕ) → Type 0
+FiledLast job text es place = standing job (reverse es) ≡ FILED-AT place text
+
 -- what an added entry did to the roll: its earlier entries and their places stay, the new one is the last, the answer is that of the new
--- roll, and however much of the new bytes is on the disk, it reads
+-- roll, and however much of the new bytes is on the disk, it reads up to where the torn entry starts, else up to the end
 pub record OneMore (buffer : List ℕ) (used : ℕ) (parts : List (List ℕ)) (r : RollAnswer) (buffer′ : List ℕ) : Type 0 where
   pub es : List Entry
   pub end : ℕ
@@ -85,7 +89,8 @@ pub record OneMore (buffer : List ℕ) (used : ℕ) (parts : List (List ℕ)) (r
   pub reads-now : RollReads (take (roll-numbers r .place) buffer′) (es ++ new-entry end parts ∷ []) (roll-numbers r .place)
   pub answered : r ≡ listed-as (reverse (es ++ new-entry end parts ∷ [])) (roll-numbers r .place)
   pub cut-anywhere : (n : ℕ) → end ≤ n → n ≤ roll-numbers r .place
-      → (e : ℕ) × (RollReads (take n buffer′) es e ⊎ RollReads (take n buffer′) (es ++ new-entry end parts ∷ []) e)
+      → let e = min n (torn-from n (es ++ new-entry end parts ∷ []) (roll-numbers r .place)) in
+      RollReads (take n buffer′) es e ⊎ RollReads (take n buffer′) (es ++ new-entry end parts ∷ []) e
 
 -- a refusal: its three numbers in the middle are 0, and every byte and both counts are as they were
 pub record Unchanged (buffer : List ℕ) (tally : Tally) (r : RollAnswer) (buffer′ : List ℕ) (tally′ : Tally) : Type 0 where

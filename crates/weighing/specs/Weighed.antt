@@ -7,7 +7,7 @@ use Rattle.plan.specs.Services.{standard}
 use Rattle.stored.specs.Counted.{AtFront, CUT, FRONT}
 use Rattle.filing.specs.Format.{Entry}
 use Rattle.filing.specs.Rules.{EntrySays, counts-done, counts-filed, obeys, says}
-use Rattle.filing.specs.Standing.{EntriesStand}
+use Rattle.filing.specs.EntriesStand.{EntriesStand}
 use Rattle.weighing.specs.declared.Weighed.{Weighed}
 use Rattle.weighing.specs.declared.Weighed.the-variants.{Torn, Broken, Fine}
 

@@ -6,17 +6,17 @@ ghost use Rattle.entries.specs.Entries.{SpanWithin, part};
 ghost use lib.ListN.{drop};
 ghost use Rattle.filing.specs.Format.{Entry, entry};
 ghost use Rattle.filing.specs.Rules.{DONE, FILED, is-finished, is-job, is-printed, standing};
-ghost use Rattle.filing.specs.Standing.{EntriesStand};
+ghost use Rattle.filing.specs.EntriesStand.{EntriesStand};
 ghost use Rattle.standing.specs.Looking.{StandingWithin, standing-told};
 ghost use Rattle.weighing.specs.Weighed.{Weighable, entry-weighed, weighed};
 use entries::EntryAt;
 use entries::Span;
 use entries::entry_at;
 use standing::StandingAt;
-use standing::is_finished;
 use standing::is_job;
 use standing::is_printed;
 use standing::look_back;
+use standing::reads_finished;
 
 pub enum Weighed {
     Torn,
@@ -54,7 +54,7 @@ pub fn finished_there(roll: &[u8], text: Span) -> bool
 {
     let from = text.at;
     let end = from + text.len;
-    is_finished(&roll[from..end])
+    reads_finished(&roll[from..end])
 }
 
 fn look_back_there(roll: &[u8], upto: usize, job: Span) -> StandingAt

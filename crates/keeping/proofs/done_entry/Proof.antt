@@ -12,8 +12,8 @@ use Rattle.keeping.proofs.Entering.{done-counts, done-files-none, done-
 use Rattle.keeping.proofs.done_entry.Statement.{statement}
 use Rattle.keeping.proofs.done_entry.Tie as tie
 
-weigh-done-requires : tie.Need-weigh-done-requires
-weigh-done-requires c κs = search needs
+weigh-used-done-requires : tie.Need-weigh-used-done-requires
+weigh-used-done-requires c κs = search needs
 
 enum-known-refusal : tie.Need-enum-known-refusal
 enum-known-refusal c = search needs
@@ -28,7 +28,7 @@ add-new-end : tie.Need-add-new-end
 add-new-end c = search needs
 
 -- the roll is fine, with what was found of it
-abbrev weighed : tie.After-known-told2 → tie.After-weigh-done
+abbrev weighed : tie.After-known-told2 → tie.After-weigh-used-done
 weighed k = k .before .before .before
 
 abbrev start : tie.After-known-told2 → tie.Start
@@ -42,7 +42,7 @@ fine : (k : tie.After-known-told2) → FineRoll (in-use edition-1 (start k .args
     (end k) (k .before .entries .given .0 .1 .1 .1 .1 .0)
 fine k =
     subst (JudgedWeighed (in-use edition-1 (start k .args .buffer .now) (start k .args .used)) (λ past. closing-fault standard past (start k .args .job .now)) never-new (length (start k .args .buffer .now)))
-    (k .before .entries .given .1) (weighed k .weigh-done .ensures)
+    (k .before .entries .given .1) (weighed k .weigh-used-done .ensures)
 
 new-end-requires : tie.Need-new-end-requires
 new-end-requires c κs = omega (arith, done-short _ _ (fine c .fine))
@@ -90,7 +90,7 @@ returns-2 : tie.Need-returns-2
 unfolding close-job
 returns-2 c =
     let e = c .before .before in
-    entry-refused _ _ _ _ _ (e .before .before .weigh-done .ensures) (e .refusal .given .1) (c .not-entered .ensures)
+    entry-refused _ _ _ _ _ (e .before .before .weigh-used-done .ensures) (e .refusal .given .1) (c .not-entered .ensures)
 
 same-length-3 : tie.Need-same-length-3
 same-length-3 c = search needs
@@ -106,7 +106,7 @@ pub done-entry-spec : {M : Type 1} → statement M
 done-entry-spec =
     tie.close
     (tie.spec
-    weigh-done-requires
+    weigh-used-done-requires
     enum-known-refusal
     not-entered-requires
     enum-known-entries

@@ -8,13 +8,14 @@ use Rattle.kinds.specs.Limits.{textLimit}
 use Rattle.plan.specs.Services.{standard}
 use Rattle.filing.specs.Answers.{edition-1, file, filing-fault, in-use}
 use Rattle.filing.specs.Rules.{is-new, standing}
+use Rattle.filing.proofs.Growing.{grown-below}
 use Rattle.keeping.specs.Keeping.{FineRoll, JudgedWeighed}
 use Rattle.keeping.proofs.Entering.{entry-added, entry-no-room, entry-refused, filed-closes-none, filed-counts, filed-short, filed-size}
 use Rattle.keeping.proofs.file_entry.Statement.{statement}
 use Rattle.keeping.proofs.file_entry.Tie as tie
 
-weigh-filed-requires : tie.Need-weigh-filed-requires
-weigh-filed-requires c κs = search needs
+weigh-used-filed-requires : tie.Need-weigh-used-filed-requires
+weigh-used-filed-requires c κs = search needs
 
 enum-known-refusal : tie.Need-enum-known-refusal
 enum-known-refusal c = search needs
@@ -26,7 +27,7 @@ enum-known-entries : tie.Need-enum-known-entries
 enum-known-entries c = search needs
 
 -- the roll is fine, with what was found of it
-abbrev weighed : tie.After-known-told2 → tie.After-weigh-filed
+abbrev weighed : tie.After-known-told2 → tie.After-weigh-used-filed
 weighed k = k .before .before .before
 
 abbrev start : tie.After-known-told2 → tie.Start
@@ -41,7 +42,7 @@ fine : (k : tie.After-known-told2) → FineRoll (in-use edition-1 (start k .args
 fine k =
     subst (JudgedWeighed (in-use edition-1 (start k .args .buffer .now) (start k .args .used)) (λ past. filing-fault standard past (start k .args .job .now) (start k .args .text .now))
     (λ past. is-new (standing (start k .args .job .now) past)) (length (start k .args .buffer .now)))
-    (k .before .entries .given .1) (weighed k .weigh-filed .ensures)
+    (k .before .entries .given .1) (weighed k .weigh-used-filed .ensures)
 
 short : (k : tie.After-known-told2) → (length (start k .args .job .now) ≤ 10) × (length (start k .args .text .now) ≤ textLimit)
 short k = filed-short _ _ _ (fine k .fine)
@@ -83,8 +84,8 @@ put-filed-requires c κs =
 add-t26 : tie.Need-add-t26
 add-t26 c = let k = c .before .before .before .before .before .before in omega (arith, fine k .few, fine k .within, fine k .short)
 
-one-more-requires : tie.Need-one-more-requires
-one-more-requires c κs = let k = c .before .before .before .before .before .before in omega (arith, fine k .filed-few, fine k .few, fine k .within, fine k .short)
+grown-requires : tie.Need-grown-requires
+grown-requires c κs = search needs
 
 cast-t28 : tie.Need-cast-t28
 cast-t28 c =
@@ -98,7 +99,7 @@ returns-2 : tie.Need-returns-2
 unfolding file
 returns-2 c =
     let e = c .before .before in
-    entry-refused _ _ _ _ _ (e .before .before .weigh-filed .ensures) (e .refusal .given .1) (c .not-entered .ensures)
+    entry-refused _ _ _ _ _ (e .before .before .weigh-used-filed .ensures) (e .refusal .given .1) (c .not-entered .ensures)
 
 same-length-3 : tie.Need-same-length-3
 same-length-3 c = search needs
@@ -108,14 +109,15 @@ unfolding file
 returns-3 c =
     let n = c .before .before .before .before .before in
     let k = n .before .before in
-    entry-added _ _ _ _ _ (fine k) _ (filed-size _ _ _) (n .before .new-end .ensures) (n .if1 .left) (fine k .new-so ∙ filed-counts _ _ _) (filed-closes-none _ _) (c .one-more .ensures) refl
+    entry-added _ _ _ _ _ (fine k) _ (filed-size _ _ _) (n .before .new-end .ensures) (n .if1 .left) (fine k .new-so ∙ filed-counts _ _ _) (filed-closes-none _ _)
+    (c .grown .ensures ∙ grown-below _ _ (omega (arith, fine k .filed-few, fine k .few, fine k .within, fine k .short))) refl
     (c .before .before .before .put-filed .ensures)
 
 pub file-entry-spec : {M : Type 1} → statement M
 file-entry-spec =
     tie.close
     (tie.spec
-    weigh-filed-requires
+    weigh-used-filed-requires
     enum-known-refusal
     not-entered-requires
     enum-known-entries
@@ -129,7 +131,7 @@ file-entry-spec =
     cast-put-filed
     put-filed-requires
     add-t26
-    one-more-requires
+    grown-requires
     cast-t28
     same-length-2
     returns-2

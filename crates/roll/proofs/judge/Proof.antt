@@ -47,18 +47,11 @@ turn k = k .before .before .before
 add-entries : tie.Need-add-entries Inv-loop μ-loop
 add-entries c = let w = turn c in let room = judged-room (w .before .loop .inv) (w .weigh .ensures) (c .before .next .given .1) in search needs
 
-one-more-requires : tie.Need-one-more-requires Inv-loop μ-loop
-one-more-requires c κs =
-    let w = turn c in
-    let l = w .before .loop .inv in
-    omega (arith, judged-room l (w .weigh .ensures) (c .before .next .given .1), l .filed-few)
+grown-requires : tie.Need-grown-requires Inv-loop μ-loop
+grown-requires c κs = search needs
 
-one-more-requires-2 : tie.Need-one-more-requires-2 Inv-loop μ-loop
-one-more-requires-2 c κs =
-    let k = c .before in
-    let w = turn k in
-    let l = w .before .loop .inv in
-    omega (arith, judged-room l (w .weigh .ensures) (k .before .next .given .1), l .done-few)
+grown-requires-2 : tie.Need-grown-requires-2 Inv-loop μ-loop
+grown-requires-2 c κs = search needs
 
 loop-less : tie.Need-loop-less Inv-loop μ-loop
 loop-less c =
@@ -70,7 +63,7 @@ loop-again : tie.Need-loop-again Inv-loop μ-loop
 loop-again c =
     let k = c .before .before in
     let w = turn k in
-    judged-on (w .before .loop .inv) (w .weigh .ensures) (k .before .next .given .1) _ _ (c .before .one-more .ensures) (c .one-more2 .ensures)
+    judged-on (w .before .loop .inv) (w .weigh .ensures) (k .before .next .given .1) _ _ (c .before .grown .ensures) (c .grown2 .ensures)
 
 pub judge-spec : {M : Type 1} → statement M
 judge-spec =
@@ -88,7 +81,7 @@ judge-spec =
     returns-2
     enum-known-next
     add-entries
-    one-more-requires
-    one-more-requires-2
+    grown-requires
+    grown-requires-2
     loop-less
     loop-again)

@@ -10,30 +10,30 @@ use Rattle.weighing.proofs.finished_there.Tie as tie
 add-end : tie.Need-add-end
 add-end c = search needs
 
-sub-is-finished : tie.Need-sub-is-finished
-sub-is-finished c = search needs
+sub-reads-finished : tie.Need-sub-reads-finished
+sub-reads-finished c = search needs
 
-part-is-finished-start : tie.Need-part-is-finished-start
-part-is-finished-start c = search needs
+part-reads-finished-start : tie.Need-part-reads-finished-start
+part-reads-finished-start c = search needs
 
-part-is-finished-end : tie.Need-part-is-finished-end
-part-is-finished-end c = search needs
+part-reads-finished-end : tie.Need-part-reads-finished-end
+part-reads-finished-end c = search needs
 
-is-finished-requires : tie.Need-is-finished-requires
-is-finished-requires c κs = search needs
+reads-finished-requires : tie.Need-reads-finished-requires
+reads-finished-requires c κs = search needs
 
 returns : tie.Need-returns
 returns c =
     let a = c .before .before .before .before .args in
-    c .is-finished .ensures ∙ ap (is-finished standard) (part-lent (a .roll .now) (a .text))
+    c .reads-finished .ensures ∙ ap (is-finished standard) (part-lent (a .roll .now) (a .text))
 
 pub finished-there-spec : {M : Type 1} → statement M
 finished-there-spec =
     tie.close
     (tie.spec
     add-end
-    sub-is-finished
-    part-is-finished-start
-    part-is-finished-end
-    is-finished-requires
+    sub-reads-finished
+    part-reads-finished-start
+    part-reads-finished-end
+    reads-finished-requires
     returns)

@@ -1,10 +1,10 @@
--- `counted`: the three ways, one for each answer of `grown`.
+-- `grown`: the three ways.
 use mathlib.Core.Path.{refl}
 use borrow.Author.Needs.{needs}
 use native.Mathlib.Omega.{arith}
 use Rattle.filing.specs.Answers.{grown}
-use Rattle.keeping.proofs.counted.Statement.{statement}
-use Rattle.keeping.proofs.counted.Tie as tie
+use Rattle.filing.proofs.grown.Statement.{statement}
+use Rattle.filing.proofs.grown.Tie as tie
 
 add-result : tie.Need-add-result
 add-result c = search needs
@@ -21,5 +21,5 @@ returns-3 : tie.Need-returns-3
 unfolding grown
 returns-3 c = rw (c .if1 .left) refl
 
-pub counted-spec : {M : Type 1} → statement M
-counted-spec = tie.close (tie.spec add-result returns returns-2 returns-3)
+pub grown-spec : {M : Type 1} → statement M
+grown-spec = tie.close (tie.spec add-result returns returns-2 returns-3)

@@ -1,11 +1,11 @@
--- `weigh_filed`: the bytes in use are weighed.
+-- `weigh_used_filed`: the bytes in use are weighed.
 use borrow.Author.Needs.{needs}
 use Rattle.plan.specs.Services.{standard}
 use Rattle.filing.specs.Answers.{filing-fault}
 use Rattle.filing.specs.Rules.{is-new, standing}
 use Rattle.keeping.proofs.InUse.{use-too-long, use-weighed}
-use Rattle.keeping.proofs.weigh_filed.Statement.{statement}
-use Rattle.keeping.proofs.weigh_filed.Tie as tie
+use Rattle.keeping.proofs.weigh_used_filed.Statement.{statement}
+use Rattle.keeping.proofs.weigh_used_filed.Tie as tie
 
 returns : tie.Need-returns
 returns c = let a = c .before .before .before .before .args in use-too-long _ _ (λ past. filing-fault standard past (a .job .now) (a .text .now)) (λ past. is-new (standing (a .job .now) past)) (c .if1 .taken)
@@ -31,8 +31,8 @@ returns-2 c =
     let a = l .before .before .before .before .before .args in
     use-weighed (a .buffer .now) (a .used) (λ past. filing-fault standard past (a .job .now) (a .text .now)) (λ past. is-new (standing (a .job .now) past)) (l .before .if1 .left) (l .least .ensures) (c .weigh-roll-filed .result) (c .weigh-roll-filed .ensures)
 
-pub weigh-filed-spec : {M : Type 1} → statement M
-weigh-filed-spec =
+pub weigh-used-filed-spec : {M : Type 1} → statement M
+weigh-used-filed-spec =
     tie.close
     (tie.spec
     returns

@@ -1,11 +1,11 @@
--- `weigh_done`: the bytes in use are weighed.
+-- `weigh_used_done`: the bytes in use are weighed.
 use borrow.Author.Needs.{needs}
 use Rattle.plan.specs.Services.{standard}
 use Rattle.filing.specs.Answers.{closing-fault}
 use Rattle.keeping.specs.Keeping.{never-new}
 use Rattle.keeping.proofs.InUse.{use-too-long, use-weighed}
-use Rattle.keeping.proofs.weigh_done.Statement.{statement}
-use Rattle.keeping.proofs.weigh_done.Tie as tie
+use Rattle.keeping.proofs.weigh_used_done.Statement.{statement}
+use Rattle.keeping.proofs.weigh_used_done.Tie as tie
 
 returns : tie.Need-returns
 returns c = let a = c .before .before .before .args in use-too-long _ _ (λ past. closing-fault standard past (a .job .now)) never-new (c .if1 .taken)
@@ -31,8 +31,8 @@ returns-2 c =
     let a = l .before .before .before .before .args in
     use-weighed (a .buffer .now) (a .used) (λ past. closing-fault standard past (a .job .now)) never-new (l .before .if1 .left) (l .least .ensures) (c .weigh-roll-done .result) (c .weigh-roll-done .ensures)
 
-pub weigh-done-spec : {M : Type 1} → statement M
-weigh-done-spec =
+pub weigh-used-done-spec : {M : Type 1} → statement M
+weigh-used-done-spec =
     tie.close
     (tie.spec
     returns

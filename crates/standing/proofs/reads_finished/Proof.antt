@@ -1,8 +1,8 @@
--- `is_finished`: a text that CHECK accepts can be asked.
+-- `reads_finished`: a text that CHECK accepts can be asked.
 use borrow.Author.Needs.{needs}
 use Rattle.standing.proofs.Texts.{finished-ready, finished-refused, finished-told, no-run}
-use Rattle.standing.proofs.is_finished.Statement.{statement}
-use Rattle.standing.proofs.is_finished.Tie as tie
+use Rattle.standing.proofs.reads_finished.Statement.{statement}
+use Rattle.standing.proofs.reads_finished.Tie as tie
 
 check-requires : tie.Need-check-requires
 check-requires c κs = search needs
@@ -28,8 +28,8 @@ returns-2 c = let k = c .before in no-run _ (k .before .before .check .ensures) 
 returns-3 : tie.Need-returns-3
 returns-3 c = let k = c .before in finished-refused _ (k .before .before .check .ensures) (k .refusal .given .1)
 
-pub is-finished-spec : {M : Type 1} → statement M
-is-finished-spec =
+pub reads-finished-spec : {M : Type 1} → statement M
+reads-finished-spec =
     tie.close
     (tie.spec
     check-requires

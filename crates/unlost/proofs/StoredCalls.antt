@@ -1,0 +1,14 @@
+-- A call over the C interface is a call of the service, with its answer and its tally told by numbers: so every theorem of the roll holds
+-- of it. Reading has the service's call in `RollAnswers`; adding has it here.
+use Prim.Native.Nat.{ℕ}
+use mathlib.Core.Path.{_≡_, refl}
+use mathlib.Core.List.{List, [], _∷_}
+use Rattle.filing.specs.Answers.{Added, grown, roll-numbers}
+use Rattle.filing.specs.declared.Tally.{Tally}
+use Rattle.keeping.specs.Calls.{Adds}
+use Rattle.turnip.specs.Rolls.{AddsStored, five-of-roll}
+
+pub stored-adds : {a : Added} {f d : ℕ} {buffer′ tally′ stored : List ℕ} → AddsStored a (f ∷ d ∷ []) buffer′ tally′ stored
+    → (t : Tally) × Adds a (record { filed = f; done = d }) (a .answer) buffer′ t × (tally′ ≡ t .filed ∷ t .done ∷ []) × (stored ≡ five-of-roll (roll-numbers (a .answer)))
+stored-adds {a} {f} {d} s =
+    (record { filed = grown (a .more-filed) f; done = grown (a .more-done) d }, record { answer = refl; bytes = s .bytes; filed = refl; done = refl }, s .counts, s .told)
