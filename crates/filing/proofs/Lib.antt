@@ -3,5 +3,7 @@ pub mod Format
 pub mod Growing
 pub mod NextEntry
 pub mod Readback
+pub mod Reading
+pub mod Rules
 pub mod Same
 pub mod Sound

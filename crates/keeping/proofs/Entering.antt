@@ -3,7 +3,7 @@ use Prim.Native.Nat.{ℕ, suc, _+_, _≤_, _<_, min}
 use mathlib.Core.Path.{_≡_, refl, ap, ap₂, sym, subst, _∙_}
 use mathlib.Core.Logic.{inl, inr}
 use mathlib.Core.Bool.{Bool, true, false, cond, _&&_, false≢true}
-use mathlib.Core.Option.{Option, none, some}
+use mathlib.Core.Option.{Option, none}
 use mathlib.Core.List.{List, [], _∷_, reverse}
 use native.Mathlib.Omega.{arith}
 use borrow.Author.Tests.{leb-true}
@@ -13,15 +13,15 @@ use Rattle.kinds.specs.Limits.{cellLimit, textLimit}
 use Rattle.plan.specs.Reading.{Reading, PLAN, REFUSED}
 use Rattle.plan.specs.Services.{accept, standard}
 use Rattle.plan.proofs.Slots.{accepted-text}
-use Rattle.plan.proofs.Tests.{never}
 use Rattle.pieces.specs.Written.{put-at}
-use Rattle.filing.specs.Answers.{Added, Judged, add-to, after-done, closing-fault, edition-1, filing-fault, longest, new-bytes, not-added, unfinished}
+use Rattle.filing.specs.Answers.{Added, Judged, add-to, closing-fault, edition-1, filing-fault, longest, new-bytes, not-added}
+use Rattle.filing.proofs.Rules.{closing-exactly, filing-exactly, obeys-done, obeys-filed}
 use Rattle.filing.proofs.Adding.{entry-made, fault-first, room-last, roll-first}
 use Rattle.filing.specs.Format.{Entry}
 use Rattle.filing.specs.Rules.{counts-done, counts-filed, done, filed, is-job, is-new, is-printed, digits, printed-as, says, standing}
 use Rattle.filing.specs.declared.RollAnswer.the-variants.{Listed}
 use Rattle.filing.specs.declared.RollRefusal.{RollRefusal}
-use Rattle.filing.specs.declared.RollRefusal.the-variants.{BadJob, BadText, NoRoom}
+use Rattle.filing.specs.declared.RollRefusal.the-variants.{NoRoom}
 use Rattle.adding.specs.Adding.{opening}
 use Rattle.adding.proofs.Bytes.{done-long, filed-long, new-long}
 use Rattle.keeping.specs.Keeping.{EnteredAs, FineRoll, JudgedWeighed, refused-entry}
@@ -93,22 +93,11 @@ text-few text e = go (accept standard cellLimit text) refl e
     go (PLAN p) a h = accepted-text standard cellLimit text a .short
 
 pub filed-short : (past : List Entry) (job text : List ℕ) → filing-fault standard past job text ≡ none → (length job ≤ 10) × (length text ≤ textLimit)
-unfolding filing-fault
-filed-short past job text e = go (is-job job) (is-printed standard text) refl refl e
-  where
-    go : (a b : Bool) → is-job job ≡ a → is-printed standard text ≡ b → cond a (cond b (after-done (standing job past)) (some BadText)) (some BadJob) ≡ none
-        → (length job ≤ 10) × (length text ≤ textLimit)
-    go true true ja tb h = (job-few job ja, text-few text tb)
-    go true false ja tb h = never cc
-    go false b ja tb h = never cc
+filed-short past job text e =
+    let (j, t, may) = obeys-filed standard past job text (filing-exactly standard past job text .0 e) in (job-few job j, text-few text t)
 
 pub done-short : (past : List Entry) (job : List ℕ) → closing-fault standard past job ≡ none → length job ≤ 10
-unfolding closing-fault
-done-short past job e = go (is-job job) refl e
-  where
-    go : (a : Bool) → is-job job ≡ a → cond a (unfinished standard (standing job past)) (some BadJob) ≡ none → length job ≤ 10
-    go true ja h = job-few job ja
-    go false ja h = never cc
+done-short past job e = job-few job (obeys-done standard past job (closing-exactly standard past job .0 e) .0)
 
 -- the bytes of each kind of entry
 pub filed-size : (end : ℕ) (job text : List ℕ) → length (new-bytes edition-1 end (job ∷ text ∷ [])) ≡ length (opening end) + (12 + length job + length text)

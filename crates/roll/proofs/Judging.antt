@@ -230,9 +230,6 @@ module _ (bytes : List ℕ) where
         nothing (x ∷ b) h = absurd (omega arith)
 
     module _ (some-bytes : length bytes ≢ 0) where
-      pub look-room : 1 ≤ length bytes
-      look-room = omega arith
-
       split : bytes ≡ getD bytes 0 0 ∷ drop 1 bytes
       split = drop-cons bytes 0 0 (omega arith)
 

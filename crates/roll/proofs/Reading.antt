@@ -1,21 +1,20 @@
 -- What looking over a roll says of its entries, and what reading it then answers.
 use Prim.Native.Nat.{ℕ, _≤_, _<_}
-use mathlib.Core.Path.{_≡_, refl, ap, ap₂, sym, _∙_}
-use mathlib.Core.Logic.{_⊎_, inl, inr}
+use mathlib.Core.Path.{_≡_, refl, ap, ap₂, sym, _∙_, subst}
 use mathlib.Core.List.{List, [], reverse}
 use native.Mathlib.Omega.{arith}
-use borrow.Author.Tests.{le-leb, lt-leb}
 use lib.ListN.{length, length-reverse}
 use Rattle.plan.proofs.Tests.{never}
-use Rattle.filing.specs.Answers.{Judged, READS, REFUSES, edition-1, fill, judged, listed-as, longest, places, read-roll}
+use Rattle.filing.specs.Answers.{Judged, READS, REFUSES, edition-1, judged, listed-as, longest, places, read-roll, Read}
+use Rattle.filing.specs.declared.RollAnswer.{RollAnswer}
+use Rattle.filing.proofs.Reading.{read-fits, read-refuses, read-short}
 use Rattle.filing.specs.Format.{Entry}
 use Rattle.filing.specs.Rules.{done, filed}
 use Rattle.filing.specs.EntriesStand.{EntriesStand}
 use Rattle.filing.specs.declared.RollAnswer.the-variants.{Listed, Refused as RefusedRoll}
 use Rattle.filing.specs.declared.RollRefusal.{RollRefusal}
 use Rattle.filing.specs.declared.RollRefusal.the-variants.{MoreEntries}
-use Rattle.filing.proofs.Sound.{WithEnd, with-end}
-use Rattle.filing.proofs.Format.{stands-within}
+use Rattle.filing.proofs.Sound.{with-end}
 use Rattle.roll.specs.Calls.{Lists}
 use Rattle.roll.specs.Judging.{Fillable, filled, looked}
 use Rattle.roll.specs.declared.LookedOver.{LookedOver}
@@ -63,29 +62,28 @@ module _ (bytes : List ℕ) {x : LookedOver} (told : x ≡ looked (judged editio
           }
 
 module _ (bytes list : List ℕ) where
+  lists-by : {r : RollAnswer} {list′ : List ℕ} → read-roll edition-1 bytes list ≡ record { answer = r; list = list′ } → Lists bytes list r list′
+  lists-by e = record { answer = sym (ap (λ (x : Read). x .answer) e); places = sym (ap (λ (x : Read). x .list) e) }
+
   pub lists-refused : {r : RollRefusal} → judged edition-1 bytes ≡ REFUSES r → Lists bytes list (RefusedRoll r) list
-  unfolding read-roll fill
-  lists-refused e = record { answer = rw e refl; places = rw e refl }
+  lists-refused e = lists-by (read-refuses edition-1 bytes list e)
 
   module _ {a f d end : ℕ} (r : ReadsAs bytes a f d end) where
     pub lists-short : length list < a → Lists bytes list (RefusedRoll (MoreEntries a)) list
-    unfolding read-roll fill
     lists-short h =
-        let test = lt-leb (length (r .es)) (length list) (omega (arith, r .many)) in
-        record { answer = rw (r .reads, test, r .many) refl; places = rw (r .reads, test) refl }
+        subst (λ k. Lists bytes list (RefusedRoll (MoreEntries k)) list) (sym (r .many)) (lists-by (read-short edition-1 bytes list (r .reads) (omega (arith, r .many))))
 
     module _ (room : a ≤ length list) where
       pub lists-fillable : 0 < end → Fillable bytes end list
       lists-fillable more = record { es = r .es; stand = r .stand more; room = omega (arith, r .many); short = r .short }
 
       lists-as : {list′ : List ℕ} → list′ ≡ filled (r .es) list → Lists bytes list (Listed a f d end) list′
-      unfolding read-roll fill
       lists-as e =
-          let test = le-leb (length (r .es)) (length list) (omega (arith, r .many)) in
           let same : Listed a f d end ≡ listed-as (reverse (r .es)) end =
           ap (λ k. Listed k f d end) (r .many ∙ sym (length-reverse (r .es)))
           ∙ ap₂ (λ p q. Listed (length (reverse (r .es))) p q end) (r .filed-so) (r .done-so) in
-          record { answer = rw (r .reads, test) same; places = rw (r .reads, test) e }
+          let it = lists-by (read-fits edition-1 bytes list (r .reads) (omega (arith, r .many))) in
+          record { answer = same ∙ it .answer; places = e ∙ it .places }
 
       pub lists-filled : {list′ : List ℕ} → 0 < end → ((es : List Entry) → EntriesStand bytes 1 es end → list′ ≡ filled es list) → Lists bytes list (Listed a f d end) list′
       lists-filled more h = lists-as (h (r .es) (r .stand more))

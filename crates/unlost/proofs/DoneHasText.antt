@@ -2,7 +2,7 @@
 use Prim.Native.Nat.{ℕ}
 use mathlib.Core.Path.{_≡_, refl, ap, ap₂, sym, _∙_}
 use mathlib.Core.Logic.{_⊎_, inl, inr}
-use mathlib.Core.Bool.{Bool, true, false, cond, _&&_, false≢true}
+use mathlib.Core.Bool.{Bool, true, false, cond, false≢true}
 use mathlib.Core.Option.{none, some}
 use mathlib.Core.List.{List, [], _∷_, _++_, append-assoc, append-nil, reverse, reverse-append, reverse-cons, reverse-reverse, reverseAux}
 use native.Mathlib.Omega.{arith}
@@ -13,30 +13,10 @@ use Rattle.plan.specs.Reading.{Reading, PLAN, REFUSED}
 use Rattle.plan.specs.Rewriting.{finished}
 use Rattle.plan.specs.Services.{accept, standard}
 use Rattle.plan.proofs.Rewrites.{finished-relabel, finished-when}
-use Rattle.plan.proofs.Tests.{and-true, never}
+use Rattle.plan.proofs.Tests.{never}
 use Rattle.filing.specs.Format.{Entry}
-use Rattle.filing.specs.Rules.{
-  DONE,
-  DONE-AT,
-  FILED,
-  FILED-AT,
-  NEITHER,
-  EntrySays,
-  JobStanding,
-  UNFILED,
-  broken,
-  finished-as,
-  is-finished,
-  is-job,
-  is-printed,
-  may-close,
-  may-file,
-  newest,
-  obeys,
-  same,
-  says,
-  standing,
-}
+use Rattle.filing.specs.Rules.{DONE, DONE-AT, FILED, FILED-AT, NEITHER, EntrySays, JobStanding, UNFILED, broken, finished-as, is-finished, may-close, may-file, newest, obeys, same, says, standing}
+use Rattle.filing.proofs.Rules.{obeys-done, obeys-filed}
 use Rattle.filing.proofs.Same.{same-equal, same-self}
 use Rattle.demands.specs.Words.{Bare, NoRuleApplies, Reads}
 use Rattle.unlost.specs.Words.{HasText, NoneOf, RollReads, of-job}
@@ -82,7 +62,7 @@ filing-of job (e ∷ past) {place} {text} h = go (says (e .parts)) refl h (filin
 
 -- nothing of a job stands behind its DONE
 silent-after : (job : List ℕ) (past after : List Entry) {place : ℕ} → standing job past ≡ DONE-AT place → broken standard past after ≡ none → NoneOf job after
-unfolding broken standing obeys of-job newest may-file may-close
+unfolding broken standing of-job newest may-file may-close
 silent-after job past [] stands h = tt
 silent-after job past (e ∷ after) {place} stands h = go (obeys standard past (says (e .parts))) refl h (silent-after job (e ∷ past) after)
   where
@@ -91,8 +71,8 @@ silent-after job past (e ∷ after) {place} stands h = go (obeys standard past (
     not-same j may no-more good true so = absurd (false≢true (sym no-more ∙ ap may (sym stands ∙ ap (λ k. standing k past) (sym (same-equal j job so))) ∙ good))
 
     other : (s : EntrySays) → obeys standard past s ≡ true → of-job job s ≡ false
-    other (FILED j t) good = not-same j may-file refl (and-true (is-job j && is-printed standard t) (may-file (standing j past)) good .1) (same j job) refl
-    other (DONE j) good = not-same j (may-close standard) refl (and-true (is-job j) (may-close standard (standing j past)) good .1) (same j job) refl
+    other (FILED j t) good = not-same j may-file refl (obeys-filed standard past j t good .2) (same j job) refl
+    other (DONE j) good = not-same j (may-close standard) refl (obeys-done standard past j good .1) (same j job) refl
     other NEITHER good = refl
 
     still : (s : EntrySays) → of-job job s ≡ false → newest job (e .place) s (standing job past) ≡ DONE-AT place
@@ -122,8 +102,8 @@ finished-text text e = go (accept standard cellLimit text) refl e
 
 -- what a DONE that obeys the rules asks for
 closes : (past : List Entry) (job : List ℕ) → obeys standard past (DONE job) ≡ true → (place : ℕ) × (text : List ℕ) × (standing job past ≡ FILED-AT place text) × (is-finished standard text ≡ true)
-unfolding obeys may-close
-closes past job good = go (standing job past) refl (and-true (is-job job) (may-close standard (standing job past)) good .1)
+unfolding may-close
+closes past job good = go (standing job past) refl (obeys-done standard past job good .1)
   where
     go : (s : JobStanding) → standing job past ≡ s → may-close standard s ≡ true → (place : ℕ) × (text : List ℕ) × (standing job past ≡ FILED-AT place text) × (is-finished standard text ≡ true)
     go UNFILED e h = absurd (false≢true h)

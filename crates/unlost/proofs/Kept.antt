@@ -1,21 +1,19 @@
 -- What was added is the last entry read, and all earlier ones stay; the tally lent is that of the new roll; a refusal changes nothing.
-use Prim.Native.Nat.{ℕ, suc, _+_, _≤_, _<_, min}
-use mathlib.Core.Path.{_≡_, refl, ap, ap₂, sym, subst, _∙_}
+use Prim.Native.Nat.{ℕ, suc, _+_, _≤_, _<_}
+use mathlib.Core.Path.{_≡_, ap, ap₂, sym, subst, _∙_}
 use mathlib.Core.Logic.{_⊎_, inl, inr, _≢_}
-use mathlib.Core.Bool.{Bool, true, false, cond, _&&_}
-use mathlib.Core.Option.{Option, none, some}
+use mathlib.Core.Bool.{true, cond}
+use mathlib.Core.Option.{Option, none}
 use mathlib.Core.List.{List, [], _∷_, _++_, reverse, reverse-append}
 use native.Mathlib.Omega.{arith}
 use lib.ListN.{length, take, length-reverse, length-take}
 use Rattle.plan.specs.Services.{standard}
-use Rattle.plan.proofs.Tests.{never}
-use Rattle.filing.specs.Answers.{Added, add-to, after-done, close-job, closing-fault, edition-1, file, filing-fault, grown, in-use, longest, new-entry, roll-numbers, unfinished}
+use Rattle.filing.specs.Answers.{Added, add-to, close-job, closing-fault, edition-1, file, filing-fault, grown, in-use, longest, new-entry, roll-numbers}
 use Rattle.filing.specs.Format.{Entry}
 use Rattle.filing.proofs.Growing.{grown-below}
-use Rattle.filing.specs.Rules.{DONE-AT, FILED-AT, JobStanding, UNFILED, counts-done, counts-filed, done, filed, is-finished, is-job, is-printed, may-close, may-file, obeys, says, standing}
+use Rattle.filing.specs.Rules.{counts-done, counts-filed, done, filed, obeys, says}
 use Rattle.filing.specs.declared.RollAnswer.{RollAnswer}
 use Rattle.filing.specs.declared.RollRefusal.{RollRefusal}
-use Rattle.filing.specs.declared.RollRefusal.the-variants.{BadJob, BadText, Unfinished}
 use Rattle.filing.specs.declared.Tally.{Tally}
 use Rattle.keeping.specs.Calls.{Adds}
 use Rattle.keeping.proofs.Entering.{done-short, filed-short}
@@ -24,6 +22,7 @@ use Rattle.demands.specs.Words.{READ}
 use Rattle.unlost.specs.Words.{OneMore, RollReads, TallyOf, Unchanged}
 use Rattle.unlost.proofs.Added.{Made, NotMade, made-or-not, one-more, refusal-not-read}
 use Rattle.filing.proofs.Readback.{Storable}
+use Rattle.filing.proofs.Rules.{closing-exactly, filing-exactly}
 use Rattle.filing.proofs.Sound.{Blank, SoundRoll, reads-sound}
 
 -- an entry with which nothing is wrong obeys the rules, and its counts fit
@@ -32,34 +31,15 @@ pub record Right (past : List Entry) (parts : List (List ℕ)) : Type 0 where
   pub fits : Storable parts
   pub good : obeys standard past (says parts) ≡ true
 
-pub filed-right : (past : List Entry) (job text : List ℕ) → filing-fault standard past job text ≡ none → Right past (job ∷ text ∷ [])
-unfolding filing-fault obeys says after-done may-file
+filed-right : (past : List Entry) (job text : List ℕ) → filing-fault standard past job text ≡ none → Right past (job ∷ text ∷ [])
+unfolding says
 filed-right past job text e =
     let (j, t) = filed-short past job text e in
-    record { few = omega arith; fits = (omega arith, (omega arith, tt)); good = go (is-job job) (is-printed standard text) (standing job past) e }
-  where
-    go : (a b : Bool) (s : JobStanding) → cond a (cond b (after-done s) (some BadText)) (some BadJob) ≡ none → ((a && b) && may-file s) ≡ true
-    go true true UNFILED h = refl
-    go true true (FILED-AT p t) h = refl
-    go true true (DONE-AT p) h = never cc
-    go true false s h = never cc
-    go false b s h = never cc
+    record { few = omega arith; fits = (omega arith, (omega arith, tt)); good = filing-exactly standard past job text .0 e }
 
 done-right : (past : List Entry) (job : List ℕ) → closing-fault standard past job ≡ none → Right past (job ∷ [])
-unfolding closing-fault obeys says unfinished may-close
-done-right past job e =
-    let j = done-short past job e in
-    record { few = omega arith; fits = (omega arith, tt); good = go (is-job job) (standing job past) e }
-  where
-    by : (p : ℕ) (b : Bool) → cond b none (some (Unfinished p)) ≡ none → b ≡ true
-    by p true h = refl
-    by p false h = never cc
-
-    go : (a : Bool) (s : JobStanding) → cond a (unfinished standard s) (some BadJob) ≡ none → (a && may-close standard s) ≡ true
-    go true UNFILED h = never cc
-    go true (FILED-AT p t) h = by p (is-finished standard t) h
-    go true (DONE-AT p) h = never cc
-    go false s h = never cc
+unfolding says
+done-right past job e = let j = done-short past job e in record { few = omega arith; fits = (omega arith, tt); good = closing-exactly standard past job .0 e }
 
 -- no roll has so many jobs that a count would stop
 pub counts-few : (roll : List ℕ) {es : List Entry} {end : ℕ} → RollReads roll es end → length roll ≤ longest → length es < longest

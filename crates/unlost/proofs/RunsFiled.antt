@@ -1,8 +1,8 @@
 -- A run's DONE text, filed, can be marked done; a run's QUOTA or FULL text cannot. Said of RUN's own answers.
 use Prim.Native.Nat.{ℕ, _+_, _≤_, _<_}
-use mathlib.Core.Path.{_≡_, refl, ap, sym, subst, _∙_}
+use mathlib.Core.Path.{_≡_, refl, ap, sym, _∙_}
 use mathlib.Core.Logic.{_≢_, _↔_, _⊎_, inl, inr}
-use mathlib.Core.Bool.{Bool, true, false, cond, _&&_}
+use mathlib.Core.Bool.{Bool, true, false, cond}
 use mathlib.Core.Option.{none, some, Option}
 use mathlib.Core.List.{List, [], _∷_, _++_, reverse, reverse-append, reverseAux}
 use native.Mathlib.Omega.{arith}
@@ -16,13 +16,13 @@ use Rattle.plan.specs.Services.{numbers, standard}
 use Rattle.plan.specs.declared.Answer.{Answer}
 use Rattle.plan.proofs.Plans.{print-relabel}
 use Rattle.plan.proofs.Rewrites.{finished-relabel, finished-when}
-use Rattle.plan.proofs.Tests.{never, and-true, false-is-not-true}
-use Rattle.pieces.proofs.Putting.{put-long}
+use Rattle.plan.proofs.Tests.{never, false-is-not-true}
 use Rattle.filing.specs.Answers.{Added, READS, add-to, after-done, close-job, closing-fault, edition-1, file, filing-fault, in-use, longest, new-bytes, new-entry, roll-numbers, unfinished, Edition, Judged, REFUSES, by-rules, judged, roll-refusal-number, unbroken}
 use Rattle.filing.proofs.Adding.{entry-made, fault-first, room-last, roll-first}
+use Rattle.filing.proofs.Rules.{obeys-filed}
 use Rattle.filing.proofs.Same.{same-self, same-equal}
 use Rattle.filing.specs.Format.{Entry, Listing, roll}
-use Rattle.filing.specs.Rules.{finished-as, is-finished, is-job, is-printed, newest, printed-as, same, says, standing, DONE, DONE-AT, EntrySays, FILED, FILED-AT, JobStanding, NEITHER, UNFILED, broken, may-file, obeys}
+use Rattle.filing.specs.Rules.{finished-as, is-finished, is-job, is-printed, newest, printed-as, same, says, standing, DONE, DONE-AT, EntrySays, FILED, FILED-AT, JobStanding, NEITHER, UNFILED, broken, obeys}
 use Rattle.filing.specs.declared.RollAnswer.{RollAnswer}
 use Rattle.filing.specs.declared.RollRefusal.the-variants.{BadJob, BadText, Unfinished, AlreadyDone, BadRoll, TooLong}
 use Rattle.filing.specs.declared.Tally.{Tally}
@@ -33,9 +33,8 @@ use Rattle.demands.specs.Words as demanded
 use Rattle.demands.proofs.Endings.{done-exactly-when, reads-rewrites-prints, text-reads-back}
 use Rattle.demands.proofs.Meanings.{reads-with-more, sound-cells}
 use Rattle.demands.proofs.Meanings as meanings
-use Rattle.unlost.specs.Words.{NOROOM, OneMore, UNFINISHED, BADTEXT, FiledLast, RollReads}
-use Rattle.unlost.proofs.Added.{Made}
-use Rattle.unlost.proofs.Kept.{filed-is-last, filed-right, was-made}
+use Rattle.unlost.specs.Words.{NOROOM, UNFINISHED, BADTEXT, FiledLast, RollReads}
+use Rattle.unlost.proofs.Kept.{filed-is-last}
 use Rattle.filing.specs.declared.RollRefusal.{RollRefusal}
 use Rattle.filing.proofs.Sound.{Blank, SoundRoll, reads-sound}
 use lib.Dec.{ltb}
@@ -62,14 +61,11 @@ module _ (job : List ℕ) where
 
   -- one entry more
   filed-here : (past : List Entry) (f : Entry) → obeys standard past (says (f .parts)) ≡ true → IfFiled past → IfFiled (f ∷ past)
-  unfolding standing newest obeys
+  unfolding standing newest
   filed-here past f good before place text e = by (says (f .parts)) good e
     where
-      its : (j t : List ℕ) → obeys standard past (FILED j t) ≡ true → is-job j ≡ true
-      its j t good = and-true (is-job j) (is-printed standard t) (and-true (is-job j && is-printed standard t) (may-file (standing j past)) good .0) .0
-
       by-filed : (j t : List ℕ) → obeys standard past (FILED j t) ≡ true → (b : Bool) → same j job ≡ b → cond b (FILED-AT (f .place) t) (standing job past) ≡ FILED-AT place text → is-job job ≡ true
-      by-filed j t good true is e = ap is-job (sym (same-equal j job is)) ∙ its j t good
+      by-filed j t good true is e = ap is-job (sym (same-equal j job is)) ∙ obeys-filed standard past j t good .0
       by-filed j t good false is e = before place text e
 
       by-done : (b : Bool) → cond b (DONE-AT (f .place)) (standing job past) ≡ FILED-AT place text → is-job job ≡ true

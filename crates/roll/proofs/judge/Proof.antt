@@ -1,6 +1,5 @@
 -- `judge`: the loop's invariant is `JudgedSoFar`. The measure is what is left of the roll.
 use Prim.Native.Nat.{_-_}
-use native.Mathlib.Omega.{arith}
 use borrow.Author.Needs.{needs}
 use lib.ListN.{length}
 use Rattle.roll.proofs.Judging.{JudgedSoFar, judged-broken, judged-first, judged-less, judged-on, judged-room, judged-torn, judged-weighable}
