@@ -1,5 +1,6 @@
 // Adding to a roll: what is wrong with a new entry, and the bytes that it takes at the end.
 ghost use mathlib.Core.Path.{_≡_};
+ghost use mathlib.Core.Bool.{false};
 ghost use mathlib.Core.List.{List, [], _∷_, reverse};
 ghost use Prim.Native.Nat.{_+_, _≤_, _<_, _^_};
 ghost use lib.ListN.{length};
@@ -9,7 +10,7 @@ ghost use Rattle.filing.specs.Answers.{READS, edition-1, closing-fault, filing-
 ghost use Rattle.filing.specs.Format.{Entry};
 ghost use Rattle.filing.specs.Rules.{is-new, standing};
 ghost use Rattle.standing.specs.Looking.{StandingWithin, standing-told};
-ghost use Rattle.adding.specs.Adding.{ReadsUp, closing-told, filing-told, opening};
+ghost use Rattle.adding.specs.Adding.{ReadsUp, fault-of, may-add, new-of, opening};
 use filing::FIRST;
 use filing::RollRefusal;
 use standing::StandingAt;
@@ -21,15 +22,14 @@ use stored::put_number;
 use stored::put_run;
 use weighing::finished_there;
 
-// Whether a job may be filed, and whether it is new then; or why not.
-pub enum Filing {
-    Fine { new: bool },
-    Refused(RollRefusal),
+pub enum EntryKind {
+    Filed,
+    Done,
 }
 
-// Whether a job may be done; or why not.
-pub enum Closing {
-    Fine,
+// Whether an entry may be added, and whether it counts as a job filed; or why not.
+pub enum MayAdd {
+    Fine { new: bool },
     Refused(RollRefusal),
 }
 
@@ -80,46 +80,57 @@ fn stands(roll: &[u8], end: u32, job: &[u8]) -> StandingAt
 }
 
 // What is wrong with filing a job's text, but for room.
-pub fn weigh_filing(roll: &[u8], end: u32, job: &[u8], text: &[u8]) -> Filing
+fn weigh_filing(roll: &[u8], end: u32, job: &[u8], text: &[u8]) -> MayAdd
     requires { ⌜ ReadsUp (now roll) end ⌝ }
-    ensures { λ r. ⌜ ((es : List Entry) → judged edition-1 (now (roll .entry)) ≡ READS es end → r ≡ filing-told (filing-fault standard (reverse es) (now (job .entry)) (now (text .entry))) (is-new (standing (now (job .entry)) (reverse es)))) ⌝ }
+    ensures { λ r. ⌜ ((es : List Entry) → judged edition-1 (now (roll .entry)) ≡ READS es end → r ≡ may-add (filing-fault standard (reverse es) (now (job .entry)) (now (text .entry))) (is-new (standing (now (job .entry)) (reverse es)))) ⌝ }
 {
     if !is_job(job) {
-        return Filing::Refused(RollRefusal::BadJob);
+        return MayAdd::Refused(RollRefusal::BadJob);
     }
     if !is_printed(text) {
-        return Filing::Refused(RollRefusal::BadText);
+        return MayAdd::Refused(RollRefusal::BadText);
     }
     match stands(roll, end, job) {
-        StandingAt::Unfiled => Filing::Fine { new: true },
-        StandingAt::Filed { at, text } => Filing::Fine { new: false },
+        StandingAt::Unfiled => MayAdd::Fine { new: true },
+        StandingAt::Filed { at, text } => MayAdd::Fine { new: false },
         StandingAt::Done { at } => {
             let place = at as u32;
-            Filing::Refused(RollRefusal::AlreadyDone(place))
+            MayAdd::Refused(RollRefusal::AlreadyDone(place))
         }
     }
 }
 
 // What is wrong with marking a job done, but for room.
-pub fn weigh_closing(roll: &[u8], end: u32, job: &[u8]) -> Closing
+fn weigh_closing(roll: &[u8], end: u32, job: &[u8]) -> MayAdd
     requires { ⌜ ReadsUp (now roll) end ⌝ }
-    ensures { λ r. ⌜ ((es : List Entry) → judged edition-1 (now (roll .entry)) ≡ READS es end → r ≡ closing-told (closing-fault standard (reverse es) (now (job .entry)))) ⌝ }
+    ensures { λ r. ⌜ ((es : List Entry) → judged edition-1 (now (roll .entry)) ≡ READS es end → r ≡ may-add (closing-fault standard (reverse es) (now (job .entry))) false) ⌝ }
 {
     if !is_job(job) {
-        return Closing::Refused(RollRefusal::BadJob);
+        return MayAdd::Refused(RollRefusal::BadJob);
     }
     match stands(roll, end, job) {
-        StandingAt::Unfiled => Closing::Refused(RollRefusal::Unfiled),
+        StandingAt::Unfiled => MayAdd::Refused(RollRefusal::Unfiled),
         StandingAt::Done { at } => {
             let place = at as u32;
-            Closing::Refused(RollRefusal::AlreadyDone(place))
+            MayAdd::Refused(RollRefusal::AlreadyDone(place))
         }
         StandingAt::Filed { at, text } => {
             if finished_there(roll, text) {
-                return Closing::Fine;
+                return MayAdd::Fine { new: false };
             }
             let place = at as u32;
-            Closing::Refused(RollRefusal::Unfinished(place))
+            MayAdd::Refused(RollRefusal::Unfinished(place))
         }
+    }
+}
+
+// What is wrong with an entry, but for room; a DONE has no text, and what is given for one is not looked at.
+pub fn weigh_entry(roll: &[u8], end: u32, kind: EntryKind, job: &[u8], text: &[u8]) -> MayAdd
+    requires { ⌜ ReadsUp (now roll) end ⌝ }
+    ensures { λ r. ⌜ ((es : List Entry) → judged edition-1 (now (roll .entry)) ≡ READS es end → r ≡ may-add (fault-of kind (now (job .entry)) (now (text .entry)) (reverse es)) (new-of kind (now (job .entry)) (reverse es))) ⌝ }
+{
+    match kind {
+        EntryKind::Filed => weigh_filing(roll, end, job, text),
+        EntryKind::Done => weigh_closing(roll, end, job),
     }
 }

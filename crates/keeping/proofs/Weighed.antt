@@ -18,11 +18,9 @@ use Rattle.roll.specs.Judging.{looked}
 use Rattle.roll.specs.declared.LookedOver.{LookedOver}
 use Rattle.roll.specs.declared.LookedOver.the-variants.{Reads, Refused as LookedRefused}
 use Rattle.roll.proofs.Reading.{ReadsAs, looked-reads, looked-refused}
-use Rattle.adding.specs.Adding.{ReadsUp, closing-told, filing-told}
-use Rattle.adding.specs.declared.Closing.{Closing}
-use Rattle.adding.specs.declared.Closing.the-variants.{Fine as FineClosing, Refused as RefusedClosing}
-use Rattle.adding.specs.declared.Filing.{Filing}
-use Rattle.adding.specs.declared.Filing.the-variants.{Fine as FineFiling, Refused as RefusedFiling}
+use Rattle.adding.specs.Adding.{ReadsUp, may-add}
+use Rattle.adding.specs.declared.MayAdd.{MayAdd}
+use Rattle.adding.specs.declared.MayAdd.the-variants.{Fine as FineAdding, Refused as RefusedAdding}
 use Rattle.keeping.specs.Keeping.{RollWeighed}
 use Rattle.keeping.specs.declared.Weighing.the-variants.{Refused, Fine}
 
@@ -88,34 +86,18 @@ module _ (roll : List ℕ) {x : LookedOver} (told : x ≡ looked (judged edition
           new-so = nb;
         }
 
-    -- the rules of each kind of entry
-
-    module _ {y : Filing} (weighs : (es : List Entry) → judged edition-1 roll ≡ READS es end → y ≡ filing-told (fault (reverse es)) (new (reverse es))) where
-      pub filing-faulty : {q : RollRefusal} → y ≡ RefusedFiling q → RollWeighed roll fault new (Refused q)
-      filing-faulty {q} h = faulty (go (fault (reverse (it .es))) (sym (weighs (it .es) (it .reads)) ∙ h))
+    -- the rules of the entry
+    module _ {y : MayAdd} (weighs : (es : List Entry) → judged edition-1 roll ≡ READS es end → y ≡ may-add (fault (reverse es)) (new (reverse es))) where
+      pub entry-faulty : {q : RollRefusal} → y ≡ RefusedAdding q → RollWeighed roll fault new (Refused q)
+      entry-faulty {q} h = faulty (go (fault (reverse (it .es))) (sym (weighs (it .es) (it .reads)) ∙ h))
         where
-          go : (p : Option RollRefusal) → filing-told p (new (reverse (it .es))) ≡ RefusedFiling q → p ≡ some q
+          go : (p : Option RollRefusal) → may-add p (new (reverse (it .es))) ≡ RefusedAdding q → p ≡ some q
           go none g = never cc
           go (some z) g = ap some (let same : z ≡ q = cc in same)
 
-      pub filing-fine : {b : Bool} → y ≡ FineFiling b → RollWeighed roll fault new (Fine n f d end b)
-      filing-fine {b} h = let (o, c) = go (fault (reverse (it .es))) (sym (weighs (it .es) (it .reads)) ∙ h) in fine o c
+      pub entry-fine : {b : Bool} → y ≡ FineAdding b → RollWeighed roll fault new (Fine n f d end b)
+      entry-fine {b} h = let (o, c) = go (fault (reverse (it .es))) (sym (weighs (it .es) (it .reads)) ∙ h) in fine o c
         where
-          go : (p : Option RollRefusal) → filing-told p (new (reverse (it .es))) ≡ FineFiling b → (p ≡ none) × (b ≡ new (reverse (it .es)))
+          go : (p : Option RollRefusal) → may-add p (new (reverse (it .es))) ≡ FineAdding b → (p ≡ none) × (b ≡ new (reverse (it .es)))
           go none g = (refl, let same : b ≡ new (reverse (it .es)) = cc in same)
-          go (some z) g = never cc
-
-    module _ {y : Closing} (weighs : (es : List Entry) → judged edition-1 roll ≡ READS es end → y ≡ closing-told (fault (reverse es))) where
-      pub closing-faulty : {q : RollRefusal} → y ≡ RefusedClosing q → RollWeighed roll fault new (Refused q)
-      closing-faulty {q} h = faulty (go (fault (reverse (it .es))) (sym (weighs (it .es) (it .reads)) ∙ h))
-        where
-          go : (p : Option RollRefusal) → closing-told p ≡ RefusedClosing q → p ≡ some q
-          go none g = never cc
-          go (some z) g = ap some (let same : z ≡ q = cc in same)
-
-      pub closing-fine : ((past : List Entry) → false ≡ new past) → y ≡ FineClosing → RollWeighed roll fault new (Fine n f d end false)
-      closing-fine old h = fine (go (fault (reverse (it .es))) (sym (weighs (it .es) (it .reads)) ∙ h)) (old (reverse (it .es)))
-        where
-          go : (p : Option RollRefusal) → closing-told p ≡ FineClosing → p ≡ none
-          go none g = refl
           go (some z) g = never cc

@@ -16,9 +16,6 @@ use Rattle.keeping.specs.declared.Entered.{Entered}
 use Rattle.keeping.specs.declared.Weighing.{Weighing}
 use Rattle.keeping.specs.declared.Weighing.the-variants.{Refused, Fine}
 
-abbrev pub never-new : List Entry → Bool
-never-new past = false
-
 -- a roll that reads, to which the entry may be added
 pub record FineRoll (j : Judged) (fault : List Entry → Option RollRefusal) (new : List Entry → Bool) (bytes entries filed₁ done₁ end : ℕ) (is-new : Bool) : Type 0 where
   pub es : List Entry

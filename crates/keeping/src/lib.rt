@@ -3,18 +3,15 @@ ghost use mathlib.Core.Path.{_≡_};
 ghost use mathlib.Core.Bool.{false};
 ghost use Prim.Native.Nat.{_+_, _≤_, min};
 ghost use lib.ListN.{length};
-ghost use Rattle.plan.specs.Services.{standard};
-ghost use Rattle.filing.specs.Answers.{close-job, closing-fault, edition-1, file, filing-fault, grown, in-use, longest};
-ghost use Rattle.adding.specs.Adding.{opening};
-ghost use Rattle.filing.specs.Rules.{is-new, standing};
-ghost use Rattle.keeping.specs.Keeping.{EnteredAs, JudgedWeighed, RollWeighed, never-new, refused-entry};
+ghost use Rattle.filing.specs.Answers.{close-job, edition-1, file, grown, in-use, longest};
+ghost use Rattle.adding.specs.Adding.{fault-of, new-of, opening};
+ghost use Rattle.keeping.specs.Keeping.{EnteredAs, JudgedWeighed, RollWeighed, refused-entry};
 ghost use Rattle.keeping.specs.Calls.{Adds};
-use adding::Closing;
-use adding::Filing;
+use adding::EntryKind;
+use adding::MayAdd;
 use adding::put_done;
 use adding::put_filed;
-use adding::weigh_closing;
-use adding::weigh_filing;
+use adding::weigh_entry;
 use filing::LONGEST;
 use filing::RollAnswer;
 use filing::RollRefusal;
@@ -35,8 +32,9 @@ pub enum Weighing {
     },
 }
 
-fn weigh_roll_filed(roll: &[u8], job: &[u8], text: &[u8]) -> Weighing
-    ensures { λ r. ⌜ RollWeighed (now (roll .entry)) (λ past. filing-fault standard past (now (job .entry)) (now (text .entry))) (λ past. is-new (standing (now (job .entry)) past)) r ⌝ }
+// What the roll comes to, and then what is wrong with the entry.
+fn weigh_roll(roll: &[u8], kind: EntryKind, job: &[u8], text: &[u8]) -> Weighing
+    ensures { λ r. ⌜ RollWeighed (now (roll .entry)) (fault-of kind (now (job .entry)) (now (text .entry))) (new-of kind (now (job .entry))) r ⌝ }
 {
     match look_over(roll) {
         LookedOver::Refused(refusal) => Weighing::Refused(refusal),
@@ -45,37 +43,14 @@ fn weigh_roll_filed(roll: &[u8], job: &[u8], text: &[u8]) -> Weighing
             filed,
             done,
             end,
-        } => match weigh_filing(roll, end, job, text) {
-            Filing::Refused(refusal) => Weighing::Refused(refusal),
-            Filing::Fine { new } => Weighing::Fine {
+        } => match weigh_entry(roll, end, kind, job, text) {
+            MayAdd::Refused(refusal) => Weighing::Refused(refusal),
+            MayAdd::Fine { new } => Weighing::Fine {
                 entries,
                 filed,
                 done,
                 end,
                 new,
-            },
-        },
-    }
-}
-
-fn weigh_roll_done(roll: &[u8], job: &[u8]) -> Weighing
-    ensures { λ r. ⌜ RollWeighed (now (roll .entry)) (λ past. closing-fault standard past (now (job .entry))) never-new r ⌝ }
-{
-    match look_over(roll) {
-        LookedOver::Refused(refusal) => Weighing::Refused(refusal),
-        LookedOver::Reads {
-            entries,
-            filed,
-            done,
-            end,
-        } => match weigh_closing(roll, end, job) {
-            Closing::Refused(refusal) => Weighing::Refused(refusal),
-            Closing::Fine => Weighing::Fine {
-                entries,
-                filed,
-                done,
-                end,
-                new: false,
             },
         },
     }
@@ -91,24 +66,14 @@ fn least(a: usize, b: usize) -> usize
 }
 
 // Of a buffer only the bytes in use are a roll; a longer use counts as all of it.
-fn weigh_used_filed(buffer: &[u8], used: usize, job: &[u8], text: &[u8]) -> Weighing
-    ensures { λ r. ⌜ JudgedWeighed (in-use edition-1 (now (buffer .entry)) used) (λ past. filing-fault standard past (now (job .entry)) (now (text .entry))) (λ past. is-new (standing (now (job .entry)) past)) (length (now (buffer .entry))) r ⌝ }
+fn weigh_used(buffer: &[u8], used: usize, kind: EntryKind, job: &[u8], text: &[u8]) -> Weighing
+    ensures { λ r. ⌜ JudgedWeighed (in-use edition-1 (now (buffer .entry)) used) (fault-of kind (now (job .entry)) (now (text .entry))) (new-of kind (now (job .entry))) (length (now (buffer .entry))) r ⌝ }
 {
     if LONGEST < buffer.len() {
         return Weighing::Refused(RollRefusal::TooLong);
     }
     let end = least(used, buffer.len());
-    weigh_roll_filed(&buffer[0..end], job, text)
-}
-
-fn weigh_used_done(buffer: &[u8], used: usize, job: &[u8]) -> Weighing
-    ensures { λ r. ⌜ JudgedWeighed (in-use edition-1 (now (buffer .entry)) used) (λ past. closing-fault standard past (now (job .entry))) never-new (length (now (buffer .entry))) r ⌝ }
-{
-    if LONGEST < buffer.len() {
-        return Weighing::Refused(RollRefusal::TooLong);
-    }
-    let end = least(used, buffer.len());
-    weigh_roll_done(&buffer[0..end], job)
+    weigh_roll(&buffer[0..end], kind, job, text)
 }
 
 // Where a roll ends with so many bytes more, and its first byte where it had none.
@@ -153,7 +118,7 @@ fn not_entered(refusal: RollRefusal) -> Entered
 pub fn file_entry(buffer: &mut [u8], used: usize, job: &[u8], text: &[u8]) -> Entered
     ensures { λ r. ⌜ EnteredAs (file edition-1 (now (buffer .entry)) used (now (job .entry)) (now (text .entry))) r (now (buffer .exit)) ⌝ }
 {
-    match weigh_used_filed(buffer, used, job, text) {
+    match weigh_used(buffer, used, EntryKind::Filed, job, text) {
         Weighing::Refused(refusal) => not_entered(refusal),
         Weighing::Fine {
             entries,
@@ -167,12 +132,14 @@ pub fn file_entry(buffer: &mut [u8], used: usize, job: &[u8], text: &[u8]) -> En
                 return not_entered(RollRefusal::NoRoom(capped(last)));
             }
             put_filed(buffer, end as usize, job, text);
+            let many = entries + 1;
+            let place = last as u32;
             Entered {
                 answer: RollAnswer::Listed {
-                    entries: entries + 1,
+                    entries: many,
                     filed: grown(filed, new),
                     done,
-                    end: last as u32,
+                    end: place,
                 },
                 filed: new,
                 done: false,
@@ -185,7 +152,7 @@ pub fn file_entry(buffer: &mut [u8], used: usize, job: &[u8], text: &[u8]) -> En
 pub fn done_entry(buffer: &mut [u8], used: usize, job: &[u8]) -> Entered
     ensures { λ r. ⌜ EnteredAs (close-job edition-1 (now (buffer .entry)) used (now (job .entry))) r (now (buffer .exit)) ⌝ }
 {
-    match weigh_used_done(buffer, used, job) {
+    match weigh_used(buffer, used, EntryKind::Done, job, b"") {
         Weighing::Refused(refusal) => not_entered(refusal),
         Weighing::Fine {
             entries,
@@ -199,12 +166,15 @@ pub fn done_entry(buffer: &mut [u8], used: usize, job: &[u8]) -> Entered
                 return not_entered(RollRefusal::NoRoom(capped(last)));
             }
             put_done(buffer, end as usize, job);
+            let many = entries + 1;
+            let closed = done + 1;
+            let place = last as u32;
             Entered {
                 answer: RollAnswer::Listed {
-                    entries: entries + 1,
+                    entries: many,
                     filed,
-                    done: done + 1,
-                    end: last as u32,
+                    done: closed,
+                    end: place,
                 },
                 filed: false,
                 done: true,

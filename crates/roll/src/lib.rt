@@ -1,9 +1,8 @@
 // The roll of filed jobs: whether its entries read, and what they add up to.
 ghost use mathlib.Core.Path.{_≡_};
-ghost use mathlib.Core.Bool.{cond};
 ghost use mathlib.Core.List.{List};
 ghost use mathlib.Core.Option.{some};
-ghost use Prim.Native.Nat.{suc, _≤_, _<_};
+ghost use Prim.Native.Nat.{_≤_, _<_};
 ghost use lib.ListN.{length, drop};
 ghost use Rattle.plan.specs.Services.{standard};
 ghost use Rattle.filing.specs.Format.{Entry, listing};

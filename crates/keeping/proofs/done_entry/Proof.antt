@@ -1,19 +1,23 @@
 -- `done_entry`: weighed, and then written where there is room.
 use Prim.Native.Nat.{ℕ}
 use mathlib.Core.Path.{refl, subst}
+use mathlib.Core.Bool.{false}
 use native.Mathlib.Numerals.{add-one}
 use native.Mathlib.Omega.{arith}
 use borrow.Author.Needs.{needs}
 use lib.ListN.{length}
 use Rattle.plan.specs.Services.{standard}
 use Rattle.filing.specs.Answers.{close-job, closing-fault, edition-1, in-use}
-use Rattle.keeping.specs.Keeping.{FineRoll, JudgedWeighed, never-new}
+use Rattle.keeping.specs.Keeping.{FineRoll, JudgedWeighed}
 use Rattle.keeping.proofs.Entering.{done-counts, done-files-none, done-short, done-size, entry-added, entry-no-room, entry-refused}
 use Rattle.keeping.proofs.done_entry.Statement.{statement}
 use Rattle.keeping.proofs.done_entry.Tie as tie
 
-weigh-used-done-requires : tie.Need-weigh-used-done-requires
-weigh-used-done-requires c κs = search needs
+slice-aggregate-weigh-used : tie.Need-slice-aggregate-weigh-used
+slice-aggregate-weigh-used c = search needs
+
+weigh-used-requires : tie.Need-weigh-used-requires
+weigh-used-requires c κs = search needs
 
 enum-known-refusal : tie.Need-enum-known-refusal
 enum-known-refusal c = search needs
@@ -28,21 +32,21 @@ add-new-end : tie.Need-add-new-end
 add-new-end c = search needs
 
 -- the roll is fine, with what was found of it
-abbrev weighed : tie.After-known-told2 → tie.After-weigh-used-done
+abbrev weighed : tie.After-known-told2 → tie.After-weigh-used
 weighed k = k .before .before .before
 
 abbrev start : tie.After-known-told2 → tie.Start
-start k = weighed k .before .before .before .before
+start k = weighed k .before .before .before .before .before
 
 abbrev end : tie.After-known-told2 → ℕ
 end k = k .before .entries .given .0 .1 .1 .1 .0
 
-fine : (k : tie.After-known-told2) → FineRoll (in-use edition-1 (start k .args .buffer .now) (start k .args .used)) (λ past. closing-fault standard past (start k .args .job .now)) never-new
+fine : (k : tie.After-known-told2) → FineRoll (in-use edition-1 (start k .args .buffer .now) (start k .args .used)) (λ past. closing-fault standard past (start k .args .job .now)) (λ past. false)
     (length (start k .args .buffer .now)) (k .before .entries .given .0 .0) (k .before .entries .given .0 .1 .0) (k .before .entries .given .0 .1 .1 .0)
     (end k) (k .before .entries .given .0 .1 .1 .1 .1 .0)
 fine k =
-    subst (JudgedWeighed (in-use edition-1 (start k .args .buffer .now) (start k .args .used)) (λ past. closing-fault standard past (start k .args .job .now)) never-new (length (start k .args .buffer .now)))
-    (k .before .entries .given .1) (weighed k .weigh-used-done .ensures)
+    subst (JudgedWeighed (in-use edition-1 (start k .args .buffer .now) (start k .args .used)) (λ past. closing-fault standard past (start k .args .job .now)) (λ past. false) (length (start k .args .buffer .now)))
+    (k .before .entries .given .1) (weighed k .weigh-used .ensures)
 
 new-end-requires : tie.Need-new-end-requires
 new-end-requires c κs = omega (arith, done-short _ _ (fine c .fine))
@@ -72,14 +76,14 @@ put-done-requires c κs =
     let short = done-short _ _ (fine k .fine) in
     (omega (arith, short), omega (arith, done-size (end k) (start k .args .job .now), c .before .before .new-end .ensures, c .before .if1 .left))
 
-add-t23 : tie.Need-add-t23
-add-t23 c = let k = c .before .before .before .before .before .before in omega (arith, fine k .few, fine k .within, fine k .short)
+add-many : tie.Need-add-many
+add-many c = let k = c .before .before .before .before .before .before in omega (arith, fine k .few, fine k .within, fine k .short)
 
-add-t24 : tie.Need-add-t24
-add-t24 c = let k = c .before .before .before .before .before .before in omega (arith, fine k .done-few, fine k .few, fine k .within, fine k .short)
+add-closed : tie.Need-add-closed
+add-closed c = let k = c .before .before .before .before .before .before in omega (arith, fine k .done-few, fine k .few, fine k .within, fine k .short)
 
-cast-t25 : tie.Need-cast-t25
-cast-t25 c =
+cast-place : tie.Need-cast-place
+cast-place c =
     let n = c .before .before .before .before in
     omega (arith, fine (n .before .before) .short, n .if1 .left)
 
@@ -90,7 +94,7 @@ returns-2 : tie.Need-returns-2
 unfolding close-job
 returns-2 c =
     let e = c .before .before in
-    entry-refused _ _ _ _ _ (e .before .before .weigh-used-done .ensures) (e .refusal .given .1) (c .not-entered .ensures)
+    entry-refused _ _ _ _ _ (e .before .before .weigh-used .ensures) (e .refusal .given .1) (c .not-entered .ensures)
 
 same-length-3 : tie.Need-same-length-3
 same-length-3 c = search needs
@@ -106,7 +110,8 @@ pub done-entry-spec : {M : Type 1} → statement M
 done-entry-spec =
     tie.close
     (tie.spec
-    weigh-used-done-requires
+    slice-aggregate-weigh-used
+    weigh-used-requires
     enum-known-refusal
     not-entered-requires
     enum-known-entries
@@ -118,9 +123,9 @@ done-entry-spec =
     returns
     cast-put-done
     put-done-requires
-    add-t23
-    add-t24
-    cast-t25
+    add-many
+    add-closed
+    cast-place
     same-length-2
     returns-2
     same-length-3

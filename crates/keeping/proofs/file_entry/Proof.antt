@@ -14,8 +14,8 @@ use Rattle.keeping.proofs.Entering.{entry-added, entry-no-room, entry-r
 use Rattle.keeping.proofs.file_entry.Statement.{statement}
 use Rattle.keeping.proofs.file_entry.Tie as tie
 
-weigh-used-filed-requires : tie.Need-weigh-used-filed-requires
-weigh-used-filed-requires c κs = search needs
+weigh-used-requires : tie.Need-weigh-used-requires
+weigh-used-requires c κs = search needs
 
 enum-known-refusal : tie.Need-enum-known-refusal
 enum-known-refusal c = search needs
@@ -27,7 +27,7 @@ enum-known-entries : tie.Need-enum-known-entries
 enum-known-entries c = search needs
 
 -- the roll is fine, with what was found of it
-abbrev weighed : tie.After-known-told2 → tie.After-weigh-used-filed
+abbrev weighed : tie.After-known-told2 → tie.After-weigh-used
 weighed k = k .before .before .before
 
 abbrev start : tie.After-known-told2 → tie.Start
@@ -42,7 +42,7 @@ fine : (k : tie.After-known-told2) → FineRoll (in-use edition-1 (start k .args
 fine k =
     subst (JudgedWeighed (in-use edition-1 (start k .args .buffer .now) (start k .args .used)) (λ past. filing-fault standard past (start k .args .job .now) (start k .args .text .now))
     (λ past. is-new (standing (start k .args .job .now) past)) (length (start k .args .buffer .now)))
-    (k .before .entries .given .1) (weighed k .weigh-used-filed .ensures)
+    (k .before .entries .given .1) (weighed k .weigh-used .ensures)
 
 short : (k : tie.After-known-told2) → (length (start k .args .job .now) ≤ 10) × (length (start k .args .text .now) ≤ textLimit)
 short k = filed-short _ _ _ (fine k .fine)
@@ -81,16 +81,16 @@ put-filed-requires c κs =
     let few = short k in
     (omega (arith, few), omega (arith, few), omega (arith, filed-size (end k) (start k .args .job .now) (start k .args .text .now), c .before .before .new-end .ensures, c .before .if1 .left))
 
-add-t26 : tie.Need-add-t26
-add-t26 c = let k = c .before .before .before .before .before .before in omega (arith, fine k .few, fine k .within, fine k .short)
+add-many : tie.Need-add-many
+add-many c = let k = c .before .before .before .before .before .before in omega (arith, fine k .few, fine k .within, fine k .short)
+
+cast-place : tie.Need-cast-place
+cast-place c =
+    let n = c .before .before .before .before in
+    omega (arith, fine (n .before .before) .short, n .if1 .left)
 
 grown-requires : tie.Need-grown-requires
 grown-requires c κs = search needs
-
-cast-t28 : tie.Need-cast-t28
-cast-t28 c =
-    let n = c .before .before .before .before .before in
-    omega (arith, fine (n .before .before) .short, n .if1 .left)
 
 same-length-2 : tie.Need-same-length-2
 same-length-2 c = search needs
@@ -99,7 +99,7 @@ returns-2 : tie.Need-returns-2
 unfolding file
 returns-2 c =
     let e = c .before .before in
-    entry-refused _ _ _ _ _ (e .before .before .weigh-used-filed .ensures) (e .refusal .given .1) (c .not-entered .ensures)
+    entry-refused _ _ _ _ _ (e .before .before .weigh-used .ensures) (e .refusal .given .1) (c .not-entered .ensures)
 
 same-length-3 : tie.Need-same-length-3
 same-length-3 c = search needs
@@ -117,7 +117,7 @@ pub file-entry-spec : {M : Type 1} → statement M
 file-entry-spec =
     tie.close
     (tie.spec
-    weigh-used-filed-requires
+    weigh-used-requires
     enum-known-refusal
     not-entered-requires
     enum-known-entries
@@ -130,9 +130,9 @@ file-entry-spec =
     returns
     cast-put-filed
     put-filed-requires
-    add-t26
+    add-many
+    cast-place
     grown-requires
-    cast-t28
     same-length-2
     returns-2
     same-length-3
