@@ -5,5 +5,4 @@ pub mod NextEntry
 pub mod Readback
 pub mod Reading
 pub mod Rules
-pub mod Same
 pub mod Sound

@@ -4,12 +4,13 @@ use Prim.Native.Nat.{ℕ, suc}
 use mathlib.Core.Bool.{Bool, true, false, cond, _&&_}
 use mathlib.Core.Option.{Option, none, some}
 use mathlib.Core.List.{List, [], _∷_}
-use lib.Dec.{eqb, leb, ltb}
+use lib.Dec.{leb, ltb}
 use lib.ListN.{length}
 use Rattle.plan.specs.Plan.{print}
 use Rattle.plan.specs.Reading.{Reading, REFUSED, PLAN}
 use Rattle.plan.specs.Rewriting.{finished}
 use Rattle.plan.specs.Services.{Limits, accept}
+use Rattle.stored.specs.Same.{same}
 use Rattle.filing.specs.Format.{Entry}
 
 -- FILED has two sections, the job number and the text; DONE has one, the job number
@@ -23,13 +24,6 @@ says [] = NEITHER
 says (job ∷ []) = DONE job
 says (job ∷ text ∷ []) = FILED job text
 says (a ∷ b ∷ c ∷ more) = NEITHER
-
--- byte for byte the same
-unfoldable pub same : List ℕ → List ℕ → Bool
-same [] [] = true
-same [] (y ∷ ys) = false
-same (x ∷ xs) [] = false
-same (x ∷ xs) (y ∷ ys) = eqb x y && same xs ys
 
 -- a job number: 1 to 10 bytes `0` to `9`
 unfoldable pub digits : List ℕ → Bool

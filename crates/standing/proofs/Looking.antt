@@ -9,8 +9,9 @@ use lib.ListN.{length, take, drop, length-drop, length-take}
 use Rattle.entries.specs.declared.EntryAt.{EntryAt}
 use Rattle.entries.specs.declared.EntryAt.the-variants.{Torn, Filed, Done, Other}
 use Rattle.entries.specs.declared.Span.{Span}
-use Rattle.filing.proofs.Same.{same-false, same-true}
-use Rattle.filing.specs.Rules.{JobStanding, FILED-AT, DONE-AT, newest, same}
+use Rattle.stored.proofs.Same.{same-false, same-true}
+use Rattle.stored.specs.Same.{same}
+use Rattle.filing.specs.Rules.{JobStanding, FILED-AT, DONE-AT, newest}
 use Rattle.entries.specs.Entries.{EntryWithin, part, says-told}
 
 pub within-by : (bytes : List ℕ) {e x : EntryAt} → e ≡ x → EntryWithin bytes e → EntryWithin bytes x

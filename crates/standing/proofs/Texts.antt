@@ -22,7 +22,7 @@ use Rattle.plan.proofs.ReadBack.{read-accepted}
 use Rattle.plan.proofs.Slots.{accepted-text}
 use Rattle.plan.proofs.Tests.{never}
 use Rattle.filing.specs.Rules.{finished-as, is-finished, is-printed, printed-as}
-use Rattle.filing.proofs.Same.{same-false, same-true}
+use Rattle.stored.proofs.Same.{same-false, same-true}
 use Rattle.finished.specs.Pieces.{ShowsPlan}
 use Rattle.services.specs.Calls.{Checks}
 

@@ -15,9 +15,10 @@ use Rattle.plan.specs.Services.{accept, standard}
 use Rattle.plan.proofs.Rewrites.{finished-relabel, finished-when}
 use Rattle.plan.proofs.Tests.{never}
 use Rattle.filing.specs.Format.{Entry}
-use Rattle.filing.specs.Rules.{DONE, DONE-AT, FILED, FILED-AT, NEITHER, EntrySays, JobStanding, UNFILED, broken, finished-as, is-finished, may-close, may-file, newest, obeys, same, says, standing}
+use Rattle.stored.specs.Same.{same}
+use Rattle.filing.specs.Rules.{DONE, DONE-AT, FILED, FILED-AT, NEITHER, EntrySays, JobStanding, UNFILED, broken, finished-as, is-finished, may-close, may-file, newest, obeys, says, standing}
 use Rattle.filing.proofs.Rules.{obeys-done, obeys-filed}
-use Rattle.filing.proofs.Same.{same-equal, same-self}
+use Rattle.stored.proofs.Same.{same-equal, same-self}
 use Rattle.demands.specs.Words.{Bare, NoRuleApplies, Reads}
 use Rattle.unlost.specs.Words.{HasText, NoneOf, RollReads, of-job}
 use Rattle.unlost.proofs.Adding.{broken-on}

@@ -31,10 +31,10 @@ use Rattle.filing.specs.Rules.{
   newest,
   obeys,
   printed-as,
-  same,
   says,
   standing,
 }
+use Rattle.stored.specs.Same.{same}
 use Rattle.filing.specs.Answers.{
   add-to,
   after-done,

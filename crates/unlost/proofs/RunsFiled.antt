@@ -20,9 +20,10 @@ use Rattle.plan.proofs.Tests.{never, false-is-not-true}
 use Rattle.filing.specs.Answers.{Added, READS, add-to, after-done, close-job, closing-fault, edition-1, file, filing-fault, in-use, longest, new-bytes, new-entry, roll-numbers, unfinished, Edition, Judged, REFUSES, by-rules, judged, roll-refusal-number, unbroken}
 use Rattle.filing.proofs.Adding.{entry-made, fault-first, room-last, roll-first}
 use Rattle.filing.proofs.Rules.{obeys-filed}
-use Rattle.filing.proofs.Same.{same-self, same-equal}
+use Rattle.stored.proofs.Same.{same-self, same-equal}
 use Rattle.filing.specs.Format.{Entry, Listing, roll}
-use Rattle.filing.specs.Rules.{finished-as, is-finished, is-job, is-printed, newest, printed-as, same, says, standing, DONE, DONE-AT, EntrySays, FILED, FILED-AT, JobStanding, NEITHER, UNFILED, broken, obeys}
+use Rattle.stored.specs.Same.{same}
+use Rattle.filing.specs.Rules.{finished-as, is-finished, is-job, is-printed, newest, printed-as, says, standing, DONE, DONE-AT, EntrySays, FILED, FILED-AT, JobStanding, NEITHER, UNFILED, broken, obeys}
 use Rattle.filing.specs.declared.RollAnswer.{RollAnswer}
 use Rattle.filing.specs.declared.RollRefusal.the-variants.{BadJob, BadText, Unfinished, AlreadyDone, BadRoll, TooLong}
 use Rattle.filing.specs.declared.Tally.{Tally}

@@ -10,7 +10,8 @@ use Rattle.filing.specs.Answers.{READS, edition-1, judged, listed-as, new-entry
 use Rattle.filing.specs.Format.{Entry}
 use Rattle.filing.specs.declared.RollAnswer.{RollAnswer}
 use Rattle.filing.specs.declared.Tally.{Tally}
-use Rattle.filing.specs.Rules.{done, filed, EntrySays, FILED, FILED-AT, DONE, NEITHER, same, says, standing}
+use Rattle.stored.specs.Same.{same}
+use Rattle.filing.specs.Rules.{done, filed, EntrySays, FILED, FILED-AT, DONE, NEITHER, says, standing}
 use Rattle.kinds.specs.Limits.{cellLimit}
 use Rattle.demands.specs.Words.{Bare, NoRuleApplies, Reads}
 

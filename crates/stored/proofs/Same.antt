@@ -6,7 +6,7 @@ use mathlib.Core.List.{List, [], _∷_}
 use borrow.Author.Tests.{eq-eqb, eqb-true}
 use lib.Dec.{eqb}
 use Rattle.plan.proofs.Tests.{and-true}
-use Rattle.filing.specs.Rules.{same}
+use Rattle.stored.specs.Same.{same}
 
 pub same-self : (xs : List ℕ) → same xs xs ≡ true
 unfolding same

@@ -1,0 +1,3 @@
+pub mod Answers
+pub mod Linking
+pub mod Stock

@@ -1,0 +1,61 @@
+-- A word list: a count, then for each word its name and its text, each behind its own count; and the least rank at fault.
+use Prim.Native.Nat.{ℕ, zero, suc}
+use mathlib.Core.Bool.{Bool, true, false, cond, not, _&&_}
+use mathlib.Core.List.{List, [], _∷_}
+use lib.Dec.{leb}
+use lib.ListN.{length}
+use Rattle.plan.specs.Reading.{Reading, PLAN, REFUSED}
+use Rattle.plan.specs.Services.{Limits, accept}
+use Rattle.plan.specs.Token.{allowed}
+use Rattle.stored.specs.Counted.{AtFront, CUT, FRONT, counted, number, then-read}
+use Rattle.words.specs.Linking.{Word, listed, stock-token, used}
+
+-- no list has more words
+abbrev pub wordLimit : ℕ
+wordLimit = 256
+
+unfoldable pub word : List ℕ → AtFront Word
+word bs = then-read (counted bs) (λ name rest. then-read (counted rest) (λ text later. FRONT (record { name = name; text = text }) later))
+
+-- acceptable: CHECK answers READ
+unfoldable pub is-read : Reading → Bool
+is-read (PLAN p) = true
+is-read (REFUSED r) = false
+
+unfoldable pub acceptable : Limits → List ℕ → Bool
+acceptable lim text = is-read (accept lim (lim .cells) text)
+
+-- a name is not empty and makes an allowed token
+unfoldable pub names : Limits → Word → Bool
+names lim w = leb 1 (length (w .name)) && allowed (lim .token) (stock-token w)
+
+-- a word that is right by itself and unlike the words before it
+unfoldable pub fits : Limits → (older : List Word) → Word → Bool
+fits lim older w = names lim w && (not (listed (stock-token w) older) && acceptable lim (w .text))
+
+-- .. and that no word up to itself uses
+unfoldable pub right : Limits → (older : List Word) → Word → Bool
+right lim older w = fits lim older w && not (used (lim .token) (stock-token w) (w ∷ older))
+
+-- the words, the newest first; or the least rank at fault
+pub data Stock : Type 0 where
+  FAULT : (rank : ℕ) → Stock
+  WORDS : List Word → Stock
+
+unfoldable pub next-word : Limits → (older : List Word) → AtFront Word → (Word → List ℕ → Stock) → Stock
+next-word lim older CUT later = FAULT (length older)
+next-word lim older (FRONT w rest) later = cond (right lim older w) (later w rest) (FAULT (length older))
+
+-- so many words more, and no byte behind them
+unfoldable pub stocked : Limits → (more : ℕ) → (older : List Word) → List ℕ → Stock
+stocked lim zero older [] = WORDS older
+stocked lim zero older (b ∷ bs) = FAULT (length older)
+stocked lim (suc more) older bs = next-word lim older (word bs) (λ w rest. stocked lim more (w ∷ older) rest)
+
+-- a cut count gives 0, one over the limit the limit
+unfoldable pub as-counted : Limits → AtFront ℕ → Stock
+as-counted lim CUT = FAULT 0
+as-counted lim (FRONT n rest) = cond (leb n wordLimit) (stocked lim n [] rest) (FAULT wordLimit)
+
+unfoldable pub stock : Limits → List ℕ → Stock
+stock lim list = as-counted lim (number list)
