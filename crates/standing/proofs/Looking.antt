@@ -2,25 +2,20 @@
 use Prim.Native.Nat.{ℕ, _+_, _-_, _≤_}
 use mathlib.Core.Path.{_≡_, refl, ap, ap₂, sym, subst, _∙_}
 use mathlib.Core.Logic.{_≢_}
-use mathlib.Core.Bool.{Bool, true, false, cond, false≢true}
+use mathlib.Core.Bool.{Bool, true, false, cond}
 use mathlib.Core.List.{List}
 use native.Mathlib.Omega.{arith}
 use lib.ListN.{length, take, drop, length-drop, length-take}
 use Rattle.entries.specs.declared.EntryAt.{EntryAt}
 use Rattle.entries.specs.declared.EntryAt.the-variants.{Torn, Filed, Done, Other}
 use Rattle.entries.specs.declared.Span.{Span}
-use Rattle.stored.proofs.Same.{same-false, same-true}
+use Rattle.stored.proofs.Same.{same-false, same-told}
 use Rattle.stored.specs.Same.{same}
 use Rattle.filing.specs.Rules.{JobStanding, FILED-AT, DONE-AT, newest}
 use Rattle.entries.specs.Entries.{EntryWithin, part, says-told}
 
 pub within-by : (bytes : List ℕ) {e x : EntryAt} → e ≡ x → EntryWithin bytes e → EntryWithin bytes x
 within-by bytes is h = subst (EntryWithin bytes) is h
-
--- a comparison is what the definition compares
-same-told : (xs ys : List ℕ) (r : Bool) → (r ≡ true → xs ≡ ys) → (xs ≡ ys → r ≡ true) → r ≡ same xs ys
-same-told xs ys true to from = sym (same-true xs ys (to refl))
-same-told xs ys false to from = sym (same-false xs ys (λ e. false≢true (from e)))
 
 module _ (roll job : List ℕ) (at len : ℕ) where
   -- of another length it is another job

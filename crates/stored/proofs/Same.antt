@@ -29,3 +29,8 @@ same-false xs ys h = go (same xs ys) refl
     go : (t : Bool) → same xs ys ≡ t → same xs ys ≡ false
     go true e = absurd (h (same-equal xs ys e))
     go false e = e
+
+-- a comparison is what the definition compares
+pub same-told : (xs ys : List ℕ) (r : Bool) → (r ≡ true → xs ≡ ys) → (xs ≡ ys → r ≡ true) → r ≡ same xs ys
+same-told xs ys true to from = sym (same-true xs ys (to refl))
+same-told xs ys false to from = sym (same-false xs ys (λ e. false≢true (from e)))

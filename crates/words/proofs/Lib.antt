@@ -1,0 +1,4 @@
+pub mod Cells
+pub mod Flat
+pub mod Linked
+pub mod Listing

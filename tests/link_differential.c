@@ -1,0 +1,236 @@
+/* Compares the proved linking with its twin over the C interface.
+
+       link_differential SEED COUNT
+
+   A case is one word list and one text. Library and twin link them into outputs that were filled alike, and are compared: the five
+   numbers, every byte of the outputs, and a few behind. Two things more are asked of the library alone: what it linked is linked
+   again, which must change nothing; and the text is linked by the list of no words, which must give what TIDY gives, but for
+   OVERFULL's place. The first few differences are told in full. Then come the longest lists on a small stack (link_small_stack.h).
+   Status 0: there were no differences, and of 10,000 cases or more each answer has come up. */
+#include <inttypes.h>
+#include <stdbool.h>
+#include <stdio.h>
+#include <stdlib.h>
+#include <string.h>
+
+#include "turnip.h"
+#include "link_generator.h"
+#include "link_small_stack.h"
+#include "link_twin.h"
+
+/* What is lent is followed by this many elements that no call may touch. */
+enum { GUARD = 16 };
+enum { TOLD_AT_MOST = 5, HEX_AT_MOST = 4000, ALL_EXPECTED_FROM = 10000, NUMBERS = TURNIP_BADWORDS + 1 };
+
+static const uint32_t possible[] = {TURNIP_READ,      TURNIP_TOOLONG,  TURNIP_BADBYTE,  TURNIP_BADTOKEN, TURNIP_UNMATCHED,
+                                    TURNIP_UNCLOSED, TURNIP_OVERFULL, TURNIP_OUTSHORT, TURNIP_BADWORDS};
+
+static const uint8_t no_words[4] = {0, 0, 0, 0};
+
+/* What one side is lent, and what it answers. */
+struct side {
+    uint8_t out[OUT_ROOM + GUARD];
+    uint32_t answer[5 + GUARD];
+};
+
+/* What is asked of the library, and what it is compared with. */
+struct asked {
+    uint64_t seed;
+    uint64_t number;
+    const char *compared;
+    const uint8_t *list, *text;
+    size_t list_length, text_length, out_length;
+};
+
+static struct word_list list;
+static struct text text;
+static struct side library, other;
+static unsigned long seen[NUMBERS], seen_ranks[WORDS_AT_MOST + 1];
+static uint64_t differences;
+
+/* ---- Telling. ---- */
+
+static void tell_hex(const char *what, const uint8_t *bytes, size_t length)
+{
+    printf("%s, %zu bytes: ", what, length);
+    for (size_t i = 0; i < length && i < HEX_AT_MOST; i++)
+        printf("%02x", bytes[i]);
+    printf("%s\n", length > HEX_AT_MOST ? " ..." : "");
+}
+
+static void tell_answer(const char *whose, const uint32_t answer[5])
+{
+    printf("%s: %" PRIu32 " %" PRIu32 " %" PRIu32 " %" PRIu32 " %" PRIu32 "\n", whose, answer[0], answer[1], answer[2],
+           answer[3], answer[4]);
+}
+
+static void tell_first_byte_apart(const struct asked *asked)
+{
+    for (size_t i = 0; i < asked->out_length + GUARD; i++) {
+        if (library.out[i] != other.out[i]) {
+            printf("byte %zu of the output: library %02x, %s %02x\n", i, library.out[i], asked->compared, other.out[i]);
+            return;
+        }
+    }
+}
+
+static void tell_difference(const struct asked *asked)
+{
+    printf("DIFFERENCE: SEED %" PRIu64 " case %" PRIu64 ", library and %s\n", asked->seed, asked->number, asked->compared);
+    tell_hex("list", asked->list, asked->list_length);
+    tell_hex("text", asked->text, asked->text_length);
+    printf("output of %zu bytes\n", asked->out_length);
+    tell_answer("library", library.answer);
+    tell_answer(asked->compared, other.answer);
+    tell_first_byte_apart(asked);
+    printf("\n");
+}
+
+/* ---- Comparing. ---- */
+
+static uint32_t other_number(uint64_t salt, size_t at)
+{
+    return ((uint32_t)salt + (uint32_t)at) * 2654435761u | 1;
+}
+
+/* Everything that is lent is written anew, the answer too, with numbers that no call leaves behind. */
+static void lend(const struct asked *asked, struct side *side)
+{
+    for (size_t i = 0; i < asked->out_length + GUARD; i++)
+        side->out[i] = (uint8_t)(other_number(asked->number, i) >> 24);
+    for (size_t i = 0; i < 5 + GUARD; i++)
+        side->answer[i] = 0xdeadbeef;
+}
+
+static void link_by_library(const struct asked *asked)
+{
+    lend(asked, &library);
+    turnip_link(asked->list, asked->list_length, asked->text, asked->text_length, library.out, asked->out_length,
+                library.answer);
+}
+
+static void compare(const struct asked *asked)
+{
+    if (memcmp(library.answer, other.answer, sizeof other.answer) == 0 &&
+        memcmp(library.out, other.out, asked->out_length + GUARD) == 0)
+        return;
+    if (++differences <= TOLD_AT_MOST)
+        tell_difference(asked);
+}
+
+static void count_answer(const uint32_t answer[5])
+{
+    if (answer[TURNIP_NUMBER] < NUMBERS)
+        seen[answer[TURNIP_NUMBER]]++;
+    if (answer[TURNIP_NUMBER] == TURNIP_BADWORDS && answer[TURNIP_PLACE] <= WORDS_AT_MOST)
+        seen_ranks[answer[TURNIP_PLACE]]++;
+}
+
+static void compare_with_twin(struct asked asked)
+{
+    asked.compared = "twin";
+    link_by_library(&asked);
+    lend(&asked, &other);
+    twin_link(asked.list, asked.list_length, asked.text, asked.text_length, other.out, asked.out_length, other.answer);
+    compare(&asked);
+    count_answer(other.answer);
+}
+
+/* What the library has just linked, where it has, is both the text and what is expected of it. */
+static void compare_with_linked(struct asked asked)
+{
+    static uint8_t linked[OUT_ROOM];
+    size_t length = library.answer[TURNIP_LENGTH];
+    if (library.answer[TURNIP_NUMBER] != TURNIP_READ || length > asked.out_length)
+        return;
+    asked.compared = "what it linked";
+    memcpy(linked, library.out, length);
+    lend(&asked, &other);
+    memcpy(other.out, linked, length);
+    memcpy(other.answer, library.answer, sizeof other.answer);
+    asked.text = linked;
+    asked.text_length = length;
+    link_by_library(&asked);
+    compare(&asked);
+}
+
+static void compare_with_tidy(struct asked asked)
+{
+    asked.compared = "TIDY";
+    asked.list = no_words;
+    asked.list_length = sizeof no_words;
+    link_by_library(&asked);
+    lend(&asked, &other);
+    turnip_tidy(asked.text, asked.text_length, other.out, asked.out_length, other.answer);
+    if (other.answer[TURNIP_NUMBER] == TURNIP_OVERFULL)
+        other.answer[TURNIP_PLACE] = 0;
+    compare(&asked);
+}
+
+/* How long the linked text is, if there is one, so that the output can be about as long. */
+static size_t linked_length(void)
+{
+    static uint8_t out[PRINTED_AT_MOST];
+    uint32_t answer[5];
+    twin_link(list.bytes, list.length, text.bytes, text.length, out, sizeof out, answer);
+    return answer[TURNIP_LENGTH];
+}
+
+static void compare_case(uint64_t seed, uint64_t number)
+{
+    struct draws draws = draws_for(seed, number);
+    make_word_list(&draws, &list);
+    make_text_to_link(&draws, &list, &text);
+    struct asked asked = {
+        .seed = seed, .number = number,
+        .list = list.bytes, .list_length = list.length,
+        .text = text.bytes, .text_length = text.length,
+        .out_length = make_out_length(&draws, linked_length()),
+    };
+    compare_with_twin(asked);
+    compare_with_linked(asked);
+    compare_with_tidy(asked);
+}
+
+/* ---- What came up. ---- */
+
+static void tell_seen(void)
+{
+    size_t ranks = 0;
+    for (size_t rank = 0; rank <= WORDS_AT_MOST; rank++)
+        ranks += seen_ranks[rank] > 0;
+    printf("link answered");
+    for (int number = 0; number < NUMBERS; number++)
+        if (seen[number] > 0)
+            printf("  %d: %lu", number, seen[number]);
+    printf(", at %zu ranks\n", ranks);
+}
+
+/* Whether every answer has come up; those that did not are told. */
+static bool all_came_up(void)
+{
+    bool all = true;
+    for (size_t i = 0; i < sizeof possible / sizeof *possible; i++) {
+        if (seen[possible[i]] == 0) {
+            printf("link never answered %" PRIu32 "\n", possible[i]);
+            all = false;
+        }
+    }
+    return all;
+}
+
+int main(int count, char **words)
+{
+    if (count != 3) {
+        fputs("usage: link_differential SEED COUNT\n", stderr);
+        return 2;
+    }
+    uint64_t seed = strtoull(words[1], NULL, 10), cases = strtoull(words[2], NULL, 10);
+    for (uint64_t number = 0; number < cases; number++)
+        compare_case(seed, number);
+    tell_seen();
+    bool enough = all_came_up() || cases < ALL_EXPECTED_FROM;
+    bool longest = links_on_small_stack();
+    printf("%" PRIu64 " cases, %" PRIu64 " differences\n", cases, differences);
+    return differences == 0 && enough && longest ? 0 : 1;
+}
