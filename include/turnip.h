@@ -1,6 +1,7 @@
-/* The C interface of the plan reader: CHECK, TIDY and RUN over lent bytes and numbers, and the roll of filed jobs.
+/* The C interface of the plan reader: CHECK, TIDY and RUN over lent bytes and numbers, linking by stock words, and the roll of
+   filed jobs.
    `rt staticlib turnip` writes target/staticlib/libturnip.a, which defines these functions for x86-64 Linux. Each of them is
-   proved to do, for every input, what the definitions in crates/plan/specs and crates/filing/specs say;
+   proved to do, for every input, what the definitions in crates/plan/specs, crates/words/specs and crates/filing/specs say;
    crates/turnip/src/lib.rt has the contracts. */
 #ifndef TURNIP_H
 #define TURNIP_H
@@ -18,7 +19,7 @@ extern "C" {
    numbers for a work memory or a list. The caller owns everything that is lent, before, during and after a call. Nothing is allocated, nothing is kept
    between calls, and nothing that was lent is looked at after the call; so calls from several threads do not disturb each
    other if what is written is lent to one of them only: outputs, memories, answers, lists, tallies, and a roll that is added to. A call uses a small fixed amount of stack, also for a plan
-   nested to the limit.
+   nested to the limit; linking uses more with each word that uses another (README.md says how much).
 
    No pointer may be NULL, also not that of a slice of length 0: point it at any byte of yours (for a memory or a list, at any
    uint32_t). Numbers are aligned as uint32_t is. What is written (out, memory, answer; list, tally, a roll that is added to) must
@@ -66,6 +67,22 @@ void turnip_tidy(const uint8_t *text, size_t text_length, uint8_t *out, size_t o
    are 0. An output of 262,144 bytes is long enough for every plan. */
 void turnip_run(const uint8_t *text, size_t text_length, uint32_t quota, uint32_t *memory, size_t memory_length,
                 uint8_t *out, size_t out_length, uint32_t answer[5]);
+
+/* Stock words: a word list is a count, then for each word the bytes of its name, its name, the bytes of its text, its text; all
+   counts are four bytes, lowest first. A word's rank is its number in the list, from 0. In a plan a token {%name} stands for the
+   word of that name; a word may use the words before it. To RUN such a token is a name like any other. */
+
+/* The numbers of LINK are 3, 11 and 13 to 18 as above, but that the place of 17 is 0, and this one, which comes before them all. */
+enum turnip_link_number {
+    TURNIP_BADWORDS = 26 /* the list is not right; the place is the least rank at fault: 0 for a cut count, 256 for one over
+                            256, the count for bytes behind the last word */
+};
+
+/* LINK: writes the printed text of a text's plan to the start of out, with the linked plan of each listed word in place of its
+   token, at any depth; tokens that the list does not have stay. The plan may have 4,096 cells once it is linked, however many the
+   text has. The other bytes of out are as they were; after a refusal all of them are. */
+void turnip_link(const uint8_t *list, size_t list_length, const uint8_t *text, size_t text_length, uint8_t *out,
+                 size_t out_length, uint32_t answer[5]);
 
 /* The roll of filed jobs: bytes that a clerk's program keeps on disk. A roll of no bytes lists nothing. Any other starts with
    the byte 1, and entries follow, one behind the other. An entry is its number of sections (2 for FILED: the job number and a

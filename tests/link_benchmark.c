@@ -1,8 +1,8 @@
-/* How long the library takes to link, beside plain C that makes the same checks: by lists that double with each word, by a chain of
-   words each in a block of the next, and by one word that is used 4,096 times. There are two plain linkers, which remember the cells
-   and the length of each word. One writes a word by walking its text each time it is used; the other copies what it wrote the
-   first time. All, and the twin, first give their answers, of list and text whole, cut and spoilt, and they must be the same.
-   Nothing here gates. */
+/* How long the library takes to link, beside plain C that makes the same checks: by lists that double with each word, by a
+   chain of words each in a block of the next, and by one word that is used 4,096 times. There are two plain linkers, which
+   remember the cells and the length of each word. One writes a word by walking its text each time that it is used; the other
+   copies what it wrote the first time. All, and the twin, first give their answers, of list and text whole, cut and spoilt,
+   and they must be the same. Nothing here gates. */
 #define _POSIX_C_SOURCE 200809L /* for clock_gettime, which C11 has not */
 
 #include <inttypes.h>
@@ -16,13 +16,13 @@
 #include "link_generator.h"
 #include "link_twin.h"
 
-enum { MOST_WORDS = 256, MOST_CELLS = 4096, MOST_BYTES = 1048576, TOKEN_BYTES = 64, NAME_BYTES = 61, PRINTED = 64 * MOST_CELLS };
-enum { LINKERS = 4, TIMED = 3, SHAPES = 6, USES = 4096 };
+enum { MOST_WORDS = 256, MOST_CELLS = 4096, MOST_BYTES = 1048576, TOKEN_BYTES = 64, NAME_BYTES = 61 };
+enum { LINKERS = 4, TIMED = 3, SHAPES = 8, USES = 4096, PRINTED = TOKEN_BYTES * MOST_CELLS };
 
 /* Rounds go from linker to linker in turn and the best of them counts, so that other work beside them meets all alike. */
 enum { ROUNDS = 3 };
 
-static const double LEAST_SECONDS = 0.2;
+static const double LEAST_SECONDS = 0.1;
 
 typedef void link_function(const uint8_t *, size_t, const uint8_t *, size_t, uint8_t *, size_t, uint32_t *);
 
@@ -196,8 +196,8 @@ static size_t used_rank(const struct linker *linker, const uint8_t *token, size_
     return token[1] == '%' ? rank_of(linker, token + 2, *width - 3) : linker->count;
 }
 
-/* Adds up what a surveyed text is linked to, where all words that it uses have been weighed; false where it uses one of this rank
-   or a larger one, the least of which is then told. */
+/* Adds up what a surveyed text is linked to, where the words that it uses have been weighed; false where it uses one of this
+   rank or a larger one, the least of which is then told. */
 static bool weigh(const struct linker *linker, const uint8_t *text, size_t text_length, size_t rank, struct word *sum,
                   size_t *fault)
 {
@@ -346,67 +346,46 @@ struct input {
     size_t length;
 };
 
-static void doubling_one(struct input *input)
-{
-    doubling_list(&input->list, MOST_WORDS, "a");
-    input->length = last_word_used(&input->list, input->text);
-}
-
-static void doubling_nothing(struct input *input)
-{
-    doubling_list(&input->list, MOST_WORDS, "");
-    input->length = last_word_used(&input->list, input->text);
-}
-
-/* One operator, doubled twelve times. */
-static void doubling_to_the_limit(struct input *input)
-{
-    doubling_list(&input->list, 13, "a");
-    input->length = last_word_used(&input->list, input->text);
-}
-
-static void chain(struct input *input)
-{
-    chain_list(&input->list, MOST_WORDS, 1, "a");
-    input->length = last_word_used(&input->list, input->text);
-}
-
-static void one_word_often(struct input *input)
-{
-    chain_list(&input->list, 1, 0, "a");
-    input->length = 0;
-    for (size_t use = 0; use < USES; use++)
-        input->length += last_word_used(&input->list, input->text + input->length);
-}
-
-/* The same, and the word is the last of many: what finding it costs. */
-static void last_word_often(struct input *input)
-{
-    chain_list(&input->list, MOST_WORDS, 0, "a");
-    input->length = 0;
-    for (size_t use = 0; use < USES; use++)
-        input->length += last_word_used(&input->list, input->text + input->length);
-}
-
+/* A list, as growing_list makes it; how often the text uses its last word; and what this must answer. After those that are
+   asked for come three that tell what a use costs: to find its word, to go through other words to it, and to pass its blanks
+   again. */
 static const struct shape {
     const char *name;
-    void (*write)(struct input *);
+    size_t words, uses, blocks, blanks; /* blanks: before the first word's text */
+    const char *first, *behind;
+    size_t times;
     uint32_t number, cells;
 } shapes[SHAPES] = {
-    {"256 words that double `a`", doubling_one, TURNIP_OVERFULL, 0},
-    {"256 words that double nothing", doubling_nothing, TURNIP_READ, 0},
-    {"13 words that double `a`", doubling_to_the_limit, TURNIP_READ, MOST_CELLS},
-    {"256 words, each in a block of the next", chain, TURNIP_READ, MOST_WORDS},
-    {"4,096 uses of the only word", one_word_often, TURNIP_READ, USES},
-    {"4,096 uses of the last of 256 words", last_word_often, TURNIP_READ, USES},
+    {"256 words that double `a`", MOST_WORDS, 2, 0, 0, "a", "", 1, TURNIP_OVERFULL, 0},
+    {"256 words that double nothing", MOST_WORDS, 2, 0, 0, "", "", 1, TURNIP_READ, 0},
+    {"13 words that double `a`", 13, 2, 0, 0, "a", "", 1, TURNIP_READ, MOST_CELLS},
+    {"256 words, each in a block of the next", MOST_WORDS, 1, 1, 0, "a", "", 1, TURNIP_READ, MOST_WORDS},
+    {"4,096 uses of one word", 1, 0, 0, 0, "a", "", USES, TURNIP_READ, USES},
+    {"4,096 uses of the last of 256 words", MOST_WORDS, 0, 0, 0, "a", "a", USES, TURNIP_READ, USES},
+    {"4,096 uses of the last of 16 words, each the next", 16, 1, 0, 0, "a", "", USES, TURNIP_READ, USES},
+    {"4,096 uses of one word with 4,096 blanks", 1, 0, 0, 4096, "a", "", USES, TURNIP_READ, USES},
 };
+
+static void write_input(const struct shape *shape, struct input *input)
+{
+    static char first[2 * USES];
+
+    memset(first, ' ', shape->blanks);
+    strcpy(first + shape->blanks, shape->first);
+    growing_list(&input->list, shape->words, shape->uses, shape->blocks, first, shape->behind);
+    input->length = 0;
+    for (size_t use = 0; use < shape->times; use++)
+        input->length += use_last_word(&input->list, input->text + input->length);
+}
 
 /* ---- All linkers must answer alike. ---- */
 
 static const struct {
     const char *name;
     link_function *link;
-} linkers[LINKERS] = {{"library", turnip_link}, {"plain C", link_walking}, {"plain C, copying", link_copying}, {"twin", twin_link}};
+} linkers[LINKERS] = {
+    {"library", turnip_link}, {"plain C", link_walking}, {"plain C, copying", link_copying}, {"twin", twin_link},
+};
 
 /* What a call leaves. */
 struct outcome {
@@ -429,8 +408,8 @@ static void agree(const struct input *input, size_t list_length, size_t text_len
     }
 }
 
-/* Whole, with too short an output, cut in the list and in the text, and with the last word spoilt; at last whole again, which must
-   be as the shape says. */
+/* With too short an output, cut in the list and in the text, with the last word spoilt; and at last whole, which must be as the
+   shape says. */
 static void agree_around(struct input *input, const struct shape *shape)
 {
     size_t length = input->list.length;
@@ -511,10 +490,11 @@ int main(void)
     double best[TIMED];
 
     printf("Microseconds to link once:\n\n"
-           "| List and text | Bytes of both | Answer | library | plain C | plain C, copying | library / plain | library / copying |\n"
+           "| List and text | Bytes of both | Answer | library | plain C | plain C, copying | library / plain "
+           "| library / copying |\n"
            "|---|---|---|---|---|---|---|---|\n");
     for (int shape = 0; shape < SHAPES; shape++) {
-        shapes[shape].write(&input);
+        write_input(&shapes[shape], &input);
         agree_around(&input, &shapes[shape]);
         for (int round = 0; round < ROUNDS; round++)
             one_round(&input, round, best);

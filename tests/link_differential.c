@@ -2,11 +2,11 @@
 
        link_differential SEED COUNT
 
-   A case is one word list and one text. Library and twin link them into outputs that were filled alike, and are compared: the five
-   numbers, every byte of the outputs, and a few behind. Two things more are asked of the library alone: what it linked is linked
-   again, which must change nothing; and the text is linked by the list of no words, which must give what TIDY gives, but for
-   OVERFULL's place. The first few differences are told in full. Then come the longest lists on a small stack (link_small_stack.h).
-   Status 0: there were no differences, and of 10,000 cases or more each answer has come up. */
+   A case is one word list and one text. Library and twin link them into outputs that were filled alike, and are compared:
+   the five numbers, every byte of the outputs, and a few behind. Two things more are asked of the library alone: what it
+   linked is linked again, which must change nothing; and the text is linked by the list of no words, which must give what
+   TIDY gives, but for OVERFULL's place. The first few differences are told in full. Then come the longest lists on a small
+   stack (link_small_stack.h). Status 0: there were no differences, and of 10,000 cases or more each answer has come up. */
 #include <inttypes.h>
 #include <stdbool.h>
 #include <stdio.h>

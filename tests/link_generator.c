@@ -1,8 +1,8 @@
-/* How the lists are made. The names are drawn first, so that a text can use a word that stands later; then the flaws, none or a
-   few, each at a rank, so that the least of several ranks is asked for; then the words are put one behind the other, and the list
-   may be cut, continued and damaged. Texts are made of the same items, with the words of smaller ranks among them. Lists and
-   texts are short most often, since many short ones reach more corners than few long ones. Bytes past a room are dropped, so
-   nothing has to count. */
+/* How the lists are made. The names are drawn first, so that a text can use a word that stands later; then the flaws, none
+   or a few, each at a rank, so that the least of several ranks is asked for; then the words are put one behind the other,
+   and the list may be cut, continued and damaged. Texts are made of the same items, with the words of smaller ranks among
+   them. Lists and texts are short most often, since many short ones reach more corners than few long ones. Bytes past a room
+   are dropped, so nothing has to count. */
 #include "link_generator.h"
 
 #include <stdbool.h>
@@ -55,8 +55,8 @@ static bool same_name(const struct name *one, const struct name *other)
 
 /* Some are the front of others, or differ in one byte, in a blank, in what looks alike, or in a `%` more. */
 static const char *const known_names[] = {
-    "a", "b", "c", "d", "p", "q", "scan", "sca", "scan ", " scan", "scan1", "scan2", "Scan", "%", "%%", "%a", "%p%", " ", "  ", "[",
-    "]", "[]d", "&", "&jit", "x y", "none", "many", "\xc3\xa9", "e\xcc\x81", "\xe2\x82\xac", "\xf0\x9f\x98\x80",
+    "a", "b", "c", "d", "p", "q", "scan", "sca", "scan ", " scan", "scan1", "scan2", "Scan", "%", "%%", "%a", "%p%", " ", "  ",
+    "[", "]", "[]d", "&", "&jit", "x y", "none", "many", "\xc3\xa9", "e\xcc\x81", "\xe2\x82\xac", "\xf0\x9f\x98\x80",
 };
 
 static const char *const allowed_characters[] = {
@@ -297,8 +297,9 @@ static void put_cells(struct maker *maker, size_t cells)
 static void put_bad_text(struct maker *maker)
 {
     static const char *const faulty[] = {
-        "x", "#", "}", "A", "\x80", "\t", "{", "{}", "{x", "{\n}", "{%", "{%{}", "{\xff}", "{%\xc3}", "{%\xef\xbf\xbd}", "{a{b}",
-        "]", "[]]", "[{x}]]", "][", "[", "[[]", "[{]}", "{012345678901234567890123456789012345678901234567890123456789012}",
+        "x", "#", "}", "A", "\x80", "\t", "{", "{}", "{x", "{\n}", "{%", "{%{}", "{\xff}", "{%\xc3}", "{%\xef\xbf\xbd}",
+        "{a{b}", "{012345678901234567890123456789012345678901234567890123456789012}", "]", "[]]", "[{x}]]", "][", "[", "[[]",
+        "[{]}",
     };
     if (one_in(maker->draws, 40)) {
         put_cells(maker, CELLS_AT_MOST + 1);
@@ -459,37 +460,27 @@ static void name_by_ranks(struct word_list *list, size_t words)
         snprintf(name, sizeof name, "w%zu", rank);
         list->names[rank] = name_of(name);
     }
-    begin_list(list, words);
 }
 
-/* Each word but the first is so many uses of the one before it, inside so many blocks, with something behind. */
-static void growing_list(struct word_list *list, size_t uses, size_t blocks, const char *first, const char *behind)
+void growing_list(struct word_list *list, size_t words, size_t uses, size_t blocks, const char *first, const char *behind)
 {
     static struct text text;
-    for (size_t rank = 0; rank < list->words; rank++) {
-        text.length = 0;
-        put_times(&text, "[", rank == 0 ? 0 : blocks);
-        for (size_t left = rank == 0 ? 0 : uses; left > 0; left--)
-            put_use(&text, &list->names[rank - 1]);
-        put_times(&text, "]", rank == 0 ? 0 : blocks);
-        put_string(&text, rank == 0 ? first : behind);
+    name_by_ranks(list, words);
+    begin_list(list, words);
+    text.length = 0;
+    put_string(&text, first);
+    for (size_t rank = 0; rank < words; rank++) {
         append_word(list, &list->names[rank], &text);
+        text.length = 0;
+        put_times(&text, "[", blocks);
+        for (size_t left = uses; left > 0; left--)
+            put_use(&text, &list->names[rank]);
+        put_times(&text, "]", blocks);
+        put_string(&text, behind);
     }
 }
 
-void doubling_list(struct word_list *list, size_t words, const char *first)
-{
-    name_by_ranks(list, words);
-    growing_list(list, 2, 0, first, "");
-}
-
-void chain_list(struct word_list *list, size_t words, size_t blocks, const char *first)
-{
-    name_by_ranks(list, words);
-    growing_list(list, 1, blocks, first, "");
-}
-
-size_t last_word_used(const struct word_list *list, uint8_t *text)
+size_t use_last_word(const struct word_list *list, uint8_t *text)
 {
     const struct name *name = &list->names[list->words - 1];
     memcpy(text, "{%", 2);
@@ -498,7 +489,7 @@ size_t last_word_used(const struct word_list *list, uint8_t *text)
     return name->length + 3;
 }
 
-/* Lists that would grow past every bound if they were written out, about the most that there may be, or nothing at all. */
+/* Lists that would grow past every bound if they were written out, about to the limit, or not at all. */
 static void drawn_growing_list(struct draws *draws, struct word_list *list)
 {
     static const char *const firsts[] = {"", "", " \n", "a", "a", "ab", "[]", "{x}", "{%}", "{%unlisted}", "[[{y}]c]"};
@@ -506,14 +497,13 @@ static void drawn_growing_list(struct draws *draws, struct word_list *list)
     size_t words = one_in(draws, 4) ? WORDS_AT_MOST - below(draws, 2) : 1 + below(draws, 20);
     switch (below(draws, 4)) {
     case 0:
-        doubling_list(list, words, first);
+        growing_list(list, words, 2, 0, first, "");
         break;
     case 1:
-        chain_list(list, words, below(draws, 20), first);
+        growing_list(list, words, 1, below(draws, 20), first, "");
         break;
     default:
-        name_by_ranks(list, words);
-        growing_list(list, below(draws, 4), below(draws, 3), first, one_in(draws, 2) ? "" : "d");
+        growing_list(list, words, below(draws, 4), below(draws, 3), first, one_in(draws, 2) ? "" : "d");
     }
 }
 
@@ -660,7 +650,8 @@ static void put_edge(struct maker *maker)
     put_cells(maker, rest);
 }
 
-static void put_too_long(struct maker *maker)
+/* A text of the longest length, or one byte longer. */
+static void put_longest(struct maker *maker)
 {
     put_items(maker, below(maker->draws, 5));
     put_times(maker->text, one_in(maker->draws, 3) ? "a" : " ", TEXT_ROOM - maker->text->length);
@@ -683,10 +674,10 @@ void make_text_to_link(struct draws *draws, const struct word_list *list, struct
         put_bad_text(&maker);
     else if (shape < 960)
         put_good_text(&maker);
-    else if (shape < 998)
+    else if (shape < 996)
         put_items(&maker, 2 + below(draws, 10));
     else
-        put_too_long(&maker);
-    if (shape >= 960 && shape < 998)
+        put_longest(&maker);
+    if (shape >= 960 && shape < 996)
         damage_text(draws, text);
 }

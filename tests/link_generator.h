@@ -30,13 +30,11 @@ void make_word_list(struct draws *draws, struct word_list *list);
 /* A text to link by a list: most of its uses are of the list's words. */
 void make_text_to_link(struct draws *draws, const struct word_list *list, struct text *text);
 
-/* So many words, w0, w1 and so on. The first has this text; each other one uses the one before it twice. */
-void doubling_list(struct word_list *list, size_t words, const char *first);
+/* A list of so many words, w0, w1 and so on. The first has a text of its own; each other one is so many uses of the one before
+   it, inside so many blocks, and then what stands behind. */
+void growing_list(struct word_list *list, size_t words, size_t uses, size_t blocks, const char *first, const char *behind);
 
-/* So many words. The first has this text; each other one is the one before it, inside so many blocks. */
-void chain_list(struct word_list *list, size_t words, size_t blocks, const char *first);
-
-/* The bytes of the text that uses the last word of one of these lists once. */
-size_t last_word_used(const struct word_list *list, uint8_t *text);
+/* Writes the text that uses the last word of a list once, and says how many bytes it has. */
+size_t use_last_word(const struct word_list *list, uint8_t *text);
 
 #endif

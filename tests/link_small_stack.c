@@ -1,7 +1,7 @@
-/* Linking may go from word to word as deep as there are words, and must cost no stack for blocks, nor time for what a list would be
-   if it were written out: so lists of 256 words are linked on a thread that has 256 KiB. What is lent is static, so that the stack
-   holds only what the calls need. The expected answers are counted by hand. Each linked text is linked again, which must change
-   nothing. */
+/* Linking may go from word to word as deep as there are words; a block must cost it no stack, and what a list would be if it
+   were written out no time. So lists of 256 words are linked on a thread that has 256 KiB. What is lent is static, so that
+   the stack holds only what the calls need. The expected answers are counted by hand. Each linked text is linked again,
+   which must change nothing. */
 #include "link_small_stack.h"
 #include "link_generator.h"
 #include "turnip.h"
@@ -12,32 +12,30 @@
 
 enum { STACK = 256 * 1024, WORDS = WORDS_AT_MOST, CELLS = CELLS_AT_MOST, ROOM = 3 * CELLS };
 
-enum shape { DOUBLING, CHAIN };
-
-/* A list, and a text that uses its last word once, inside so many blocks; its answer. */
+/* A list of so many words, each other one so many uses of the one before it inside so many blocks; a text that uses the last
+   once, with so many blocks around; and the answer. */
 struct longest {
-    enum shape shape;
-    size_t words, blocks; /* blocks of a chain: around each word */
+    size_t words, uses, blocks;
     const char *first;
     size_t around;
     uint32_t number, cells, length, place;
 };
 
 static const struct longest cases[] = {
-    {DOUBLING, WORDS, 0, "a", 0, TURNIP_OVERFULL, 0, 0, 0},
-    {DOUBLING, WORDS, 0, "", 0, TURNIP_READ, 0, 0, 0},
-    {DOUBLING, WORDS, 0, "", 3, TURNIP_READ, 3, 6, 0},
-    {DOUBLING, 13, 0, "a", 0, TURNIP_READ, CELLS, CELLS, 0},
-    {DOUBLING, 13, 0, "a", 1, TURNIP_OVERFULL, 0, 0, 0},
-    {DOUBLING, 14, 0, "a", 0, TURNIP_OVERFULL, 0, 0, 0},
-    {CHAIN, WORDS, 1, "a", 0, TURNIP_READ, WORDS, 2 * WORDS - 1, 0},
-    {CHAIN, WORDS, 0, "{x}", 0, TURNIP_READ, 1, 3, 0},
-    {CHAIN, WORDS, 16, "", 16, TURNIP_READ, CELLS, 2 * CELLS, 0},
-    {CHAIN, WORDS, 16, "a", 16, TURNIP_OVERFULL, 0, 0, 0},
-    {CHAIN, 2, CELLS - 1, "", 1, TURNIP_READ, CELLS, 2 * CELLS, 0},
-    {CHAIN, 2, CELLS, "", 0, TURNIP_BADWORDS, 0, 0, 1},
-    {CHAIN, 1, 0, "", CELLS, TURNIP_READ, CELLS, 2 * CELLS, 0},
-    {CHAIN, 1, 0, "", CELLS + 1, TURNIP_OVERFULL, 0, 0, 0},
+    {WORDS, 2, 0, "a", 0, TURNIP_OVERFULL, 0, 0, 0},
+    {WORDS, 2, 0, "", 0, TURNIP_READ, 0, 0, 0},
+    {WORDS, 2, 0, "", 3, TURNIP_READ, 3, 6, 0},
+    {13, 2, 0, "a", 0, TURNIP_READ, CELLS, CELLS, 0},
+    {13, 2, 0, "a", 1, TURNIP_OVERFULL, 0, 0, 0},
+    {14, 2, 0, "a", 0, TURNIP_OVERFULL, 0, 0, 0},
+    {WORDS, 1, 1, "a", 0, TURNIP_READ, WORDS, 2 * WORDS - 1, 0},
+    {WORDS, 1, 0, "{x}", 0, TURNIP_READ, 1, 3, 0},
+    {WORDS, 1, 16, "", 16, TURNIP_READ, CELLS, 2 * CELLS, 0},
+    {WORDS, 1, 16, "a", 16, TURNIP_OVERFULL, 0, 0, 0},
+    {2, 1, CELLS - 1, "", 1, TURNIP_READ, CELLS, 2 * CELLS, 0},
+    {2, 1, CELLS, "", 0, TURNIP_BADWORDS, 0, 0, 1},
+    {1, 0, 0, "", CELLS, TURNIP_READ, CELLS, 2 * CELLS, 0},
+    {1, 0, 0, "", CELLS + 1, TURNIP_OVERFULL, 0, 0, 0},
 };
 
 static struct word_list list;
@@ -47,17 +45,9 @@ static size_t write_text(const struct longest *longest)
 {
     size_t around = longest->around;
     memset(text, '[', around);
-    size_t length = around + last_word_used(&list, text + around);
+    size_t length = around + use_last_word(&list, text + around);
     memset(text + length, ']', around);
     return length + around;
-}
-
-static void write_list(const struct longest *longest)
-{
-    if (longest->shape == DOUBLING)
-        doubling_list(&list, longest->words, longest->first);
-    else
-        chain_list(&list, longest->words, longest->blocks, longest->first);
 }
 
 /* The linked text where there is one: blocks in blocks, and in the innermost the first word, as often as the length says. */
@@ -77,7 +67,7 @@ static bool links_as_expected(const struct longest *longest)
 {
     uint32_t first[5], second[5];
     const uint32_t answer[5] = {longest->number, 0, longest->cells, longest->length, longest->place};
-    write_list(longest);
+    growing_list(&list, longest->words, longest->uses, longest->blocks, longest->first, "");
     write_expected(longest);
     memset(out, 0xa5, sizeof out);
     memset(again, 0xa5, sizeof again);

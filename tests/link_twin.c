@@ -1,10 +1,10 @@
-/* Linking in five parts, as its rules have them: bytes to words; texts to plans; which rank is at fault; linking, on plain trees;
-   and the answer, in the order of the refusals. Each part has the words of the rules that it follows above it. Whether a text is
-   acceptable, and what is wrong with it, is asked of the other twin.
+/* Linking in five parts, as its rules have them: bytes to words; texts to plans; which rank is at fault; linking, on plain
+   trees; and the answer, in the order of the refusals. Each part has the words of the rules that it follows above it.
+   Whether a text is acceptable, and what is wrong with it, is asked of the other twin.
 
-   Linking takes the words in the order of their ranks, so each finds those that it uses linked before it. A linked plan holds
-   the items of the words in it, not copies of them, and is made only where its cells are within the limit: so a list that
-   doubles with each word costs no more than any other. All items are freed at the end, at once. */
+   Linking takes the words in the order of their ranks, so each finds those that it uses linked before it. A linked plan
+   holds the items of the words in it, not copies of them, and is made only where its cells are within the limit: so a list
+   that doubles with each word costs no more than any other. All items are freed at the end, at once. */
 #include "link_twin.h"
 
 #include <stdbool.h>
@@ -134,8 +134,8 @@ static void take_words(struct bytes bytes, struct list *list)
 
 /* ---- Texts to plans. ---- */
 
-/* The plan of a text that has none of 11 and 13 to 16 about it, so each { opens a token, and each ] closes a block. Items may be
-   any number at any depth, so it keeps its own stack of open blocks. */
+/* The plan of a text that has none of 11 and 13 to 16 about it, so each { opens a token, and each ] closes a block. Items
+   may be any number at any depth, so it keeps its own stack of open blocks. */
 static struct plan plan_of(struct list *list, struct bytes text)
 {
     struct plan plan = {0};
@@ -215,8 +215,8 @@ static bool uses(const struct word *user, const struct word *used)
 }
 
 /* "At fault is: a word that is missing or cut; whose name is empty, makes no allowed token, or stands already at a smaller
-   rank; whose text is not acceptable; a word that is used by a word of the same or a smaller rank". A user whose own text is not
-   acceptable has no plan and uses nothing here: it is at fault itself, at a rank no larger. */
+   rank; whose text is not acceptable; a word that is used by a word of the same or a smaller rank". A user whose own text is
+   not acceptable has no plan and uses nothing here: it is at fault itself, at a rank no larger. */
 static bool at_fault(const struct list *list, size_t rank)
 {
     const struct word *word = &list->words[rank];

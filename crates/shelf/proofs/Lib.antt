@@ -1,2 +1,4 @@
+pub mod Noting
 pub mod Seeking
+pub mod Standing
 pub mod Words

@@ -3,16 +3,18 @@
 use Prim.Native.Nat.{ℕ, zero, suc, _≤_, _<_}
 use mathlib.Core.Path.{_≡_}
 use mathlib.Core.Bool.{cond}
+use mathlib.Core.Option.{Option}
 use mathlib.Core.List.{List, [], _∷_}
 use lib.ListN.{length, drop, getD}
 use Rattle.kinds.specs.declared.Token.{Token}
 use Rattle.kinds.specs.Limits.{textLimit, tokenLimit}
+use Rattle.plan.specs.Plan.{Plan}
 use Rattle.plan.specs.Pieces.{Piece, OP, TOKEN, BEGIN, END, Shows, pieces}
 use Rattle.pieces.specs.Written.{Is, TokenAt}
 use Rattle.pieces.specs.declared.Piece.{Piece as CodePiece}
 use Rattle.stored.specs.Counted.{AtFront, CUT, FRONT}
 use Rattle.stored.specs.Same.{same}
-use Rattle.words.specs.Linking.{Word, plan-of, stock-token}
+use Rattle.words.specs.Linking.{Word, link, plan-of, stands-for, stock-token}
 use Rattle.words.specs.Stock.{word}
 use Rattle.shelf.specs.declared.Named.{Named}
 use Rattle.shelf.specs.declared.Named.the-variants.{Unlisted, Listed}
@@ -66,3 +68,14 @@ TokenStands text k = (t : List ℕ) × TokenAt text (k .at .0) (k .len) t
 
 abbrev pub PieceStands : (text : List ℕ) → CodePiece → Type 0
 PieceStands text k = (x : Piece ℕ) × Is text k x
+
+-- what a token stands for by the words of the ranks below n; a text's plan linked by them; and the linked plan of a word, which the
+-- words before it settle
+abbrev pub stands-to : (list starts : List ℕ) → (n : ℕ) → List ℕ → Option (Plan ℕ)
+stands-to list starts n = stands-for tokenLimit (words-to list starts n)
+
+unfoldable pub linked-text : (list starts : List ℕ) → (n : ℕ) → (text : List ℕ) → Plan ℕ
+linked-text list starts n text = link (stands-to list starts n) (plan-of tokenLimit text)
+
+unfoldable pub linked-word : (list starts : List ℕ) → (rank : ℕ) → Plan ℕ
+linked-word list starts rank = linked-text list starts rank (word-of list starts rank .text)

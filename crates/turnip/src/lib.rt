@@ -1,11 +1,15 @@
 // The services for programs in C and other languages: include/turnip.h declares and explains these functions. Each asks nothing
-// of its caller and tells the service's answer by five numbers; its contract is the service's (specs/Stored.antt, specs/Rolls.antt).
+// of its caller and tells the service's answer by five numbers; its contract is the service's (specs/Stored.antt, specs/Rolls.antt,
+// specs/Linking.antt).
 ghost use mathlib.Core.Path.{_≡_};
 ghost use lib.ListN.{getD, set};
 ghost use Rattle.plan.specs.Services.{numbers};
 ghost use Rattle.services.specs.Calls.{Checks, Runs, Tidies};
 ghost use Rattle.filing.specs.Answers.{close-job, edition-1, file, grown, one-entry, roll-numbers};
 ghost use Rattle.roll.specs.Calls.{Lists};
+ghost use Rattle.words.specs.Answers.{link-numbers};
+ghost use Rattle.linking.specs.Calls.{Links};
+ghost use Rattle.turnip.specs.Linking.{LinkAnswers};
 ghost use Rattle.turnip.specs.Rolls.{AddsStored, RollAnswers, five-of-entry, five-of-roll};
 ghost use Rattle.turnip.specs.Stored.{Answers, five};
 use filing::EntryAnswer;
@@ -16,12 +20,19 @@ use keeping::done_entry;
 use keeping::file_entry;
 use keeping::with_entry;
 use plan::Answer;
+use plan::Numbers;
+use words::LinkAnswer;
+
+fn store_numbers(told: Numbers, answer: &mut [u32; 5])
+    ensures { λ _. ⌜ now (answer .exit) ≡ five told ⌝ }
+{
+    *answer = [told.number, told.steps, told.cells, told.length, told.place];
+}
 
 fn store(given: Answer, answer: &mut [u32; 5])
     ensures { λ _. ⌜ now (answer .exit) ≡ five (numbers given) ⌝ }
 {
-    let told = given.numbers();
-    *answer = [told.number, told.steps, told.cells, told.length, told.place];
+    store_numbers(given.numbers(), answer);
 }
 
 #[no_mangle]
@@ -132,4 +143,17 @@ pub extern "C" fn turnip_roll_done(
 {
     let entered = done_entry(roll, used, job);
     store_entered(entered, tally, answer);
+}
+
+fn store_linked(given: LinkAnswer, answer: &mut [u32; 5])
+    ensures { λ _. ⌜ now (answer .exit) ≡ five (link-numbers given) ⌝ }
+{
+    store_numbers(given.numbers(), answer);
+}
+
+#[no_mangle]
+pub extern "C" fn turnip_link(list: &[u8], text: &[u8], out: &mut [u8], answer: &mut [u32; 5])
+    ensures { λ _. ⌜ LinkAnswers (λ r. Links (now (list .entry)) (now (text .entry)) (now (out .entry)) r (now (out .exit))) (now (answer .exit)) ⌝ }
+{
+    store_linked(linking::link(list, text, out), answer);
 }

@@ -6,23 +6,8 @@ use mathlib.Core.List.{List}
 use native.Mathlib.Omega.{arith}
 use Rattle.plan.specs.Plan.{Plan, end, operator, token, block, cells}
 use Rattle.plan.proofs.Plans.{cells-then}
+use Rattle.words.specs.Places.{cells-put, weighed, weight-by}
 use Rattle.words.specs.Linking.{in-place, link}
-
--- the cells of a plan, each token counted by its weight
-unfoldable pub weighed : {L : Type 0} → (weight : List ℕ → ℕ) → Plan L → ℕ
-weighed weight end = 0
-weighed weight (operator l o p) = 1 + weighed weight p
-weighed weight (token l t p) = weight t + weighed weight p
-weighed weight (block l b p) = 1 + weighed weight b + weighed weight p
-
--- the cells of what a token stands for: of itself, if it stands for none
-unfoldable pub cells-put : {L : Type 0} → Option (Plan L) → ℕ
-cells-put none = 1
-cells-put (some q) = cells q
-
--- the weight of a token by what it stands for
-unfoldable pub weight-by : {L : Type 0} → (stands : List ℕ → Option (Plan L)) → List ℕ → ℕ
-weight-by stands t = cells-put (stands t)
 
 module _ {L : Type 0} where
   -- the cells of what is put in a token's place, before more items

@@ -8,23 +8,7 @@ use Rattle.plan.specs.Plan.{Plan, end, operator, token, block}
 use Rattle.plan.specs.Pieces.{Piece, OP, TOKEN, BEGIN, END, pieces}
 use Rattle.plan.proofs.Pieces.{pieces-then}
 use Rattle.words.specs.Linking.{in-place, link}
-
--- the pieces of the plan that a token stands for, or its own piece
-unfoldable pub put-for : {L : Type 0} → Option (Plan L) → Piece L → List (Piece L)
-put-for none x = x ∷ []
-put-for (some q) x = pieces q
-
--- what a piece gives way to
-unfoldable pub put-in : {L : Type 0} → (stands : List ℕ → Option (Plan L)) → Piece L → List (Piece L)
-put-in stands (OP l o) = OP l o ∷ []
-put-in stands (TOKEN l t) = put-for (stands t) (TOKEN l t)
-put-in stands (BEGIN l) = BEGIN l ∷ []
-put-in stands END = END ∷ []
-
--- what pieces give way to, in a row
-unfoldable pub linked-pieces : {L : Type 0} → (stands : List ℕ → Option (Plan L)) → List (Piece L) → List (Piece L)
-linked-pieces stands [] = []
-linked-pieces stands (x ∷ ps) = put-in stands x ++ linked-pieces stands ps
+use Rattle.words.specs.Places.{linked-pieces, put-for, put-in}
 
 module _ {L : Type 0} (stands : List ℕ → Option (Plan L)) where
   -- a part of a row is linked by itself

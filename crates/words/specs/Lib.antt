@@ -1,3 +1,4 @@
 pub mod Answers
 pub mod Linking
+pub mod Places
 pub mod Stock

@@ -1,6 +1,6 @@
 -- `store`: the numbers are those of the answer, in the order of `five`.
 use borrow.Author.Needs.{needs}
-use mathlib.Core.Path.{ap}
+use mathlib.Core.Path.{ap, _∙_}
 use Rattle.turnip.specs.Stored.{five}
 use Rattle.turnip.proofs.store.Statement.{statement}
 use Rattle.turnip.proofs.store.Tie as tie
@@ -8,8 +8,11 @@ use Rattle.turnip.proofs.store.Tie as tie
 numbers-requires : tie.Need-numbers-requires
 numbers-requires c κs = search needs
 
+store-numbers-requires : tie.Need-store-numbers-requires
+store-numbers-requires c κs = search needs
+
 returns : tie.Need-returns
-returns c = ap five (c .before .numbers .ensures)
+returns c = c .store-numbers .ensures ∙ ap five (c .before .before .numbers .ensures)
 
 pub store-spec : {M : Type 1} → statement M
-store-spec = tie.close (tie.spec numbers-requires returns)
+store-spec = tie.close (tie.spec numbers-requires store-numbers-requires returns)

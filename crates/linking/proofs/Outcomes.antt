@@ -1,0 +1,171 @@
+-- What is answered is the outcome's answer: the list's fault, the text's, too many cells, too short an output, or the linked text.
+use Prim.Native.Nat.{ℕ, zero, suc, _+_, _*_, _≤_, _<_, min}
+use mathlib.Core.Path.{_≡_, refl, ap, ap₂, sym, subst, _∙_}
+use mathlib.Core.Bool.{Bool, true, false, cond}
+use mathlib.Core.Option.{Option, none, some}
+use mathlib.Core.List.{List, [], _++_}
+use native.Mathlib.Omega.{arith}
+use borrow.Author.Tests.{le-leb, lt-leb}
+use lib.ListN.{length, length-replicate, replicate}
+use Rattle.kinds.specs.Limits.{cellLimit, tokenLimit}
+use Rattle.plan.specs.Plan.{Plan, cells, print}
+use Rattle.plan.specs.Reading.{PLAN, REFUSED, Reading}
+use Rattle.plan.specs.Services.{standard}
+use Rattle.plan.specs.Token.{Allowed}
+use Rattle.plan.specs.declared.Refusal.the-variants.{Text as BadText}
+use Rattle.plan.specs.declared.TextFault.{TextFault}
+use Rattle.plan.proofs.Pieces.{shows-allowed}
+use Rattle.plan.proofs.ReadBack.{print-bound}
+use Rattle.pieces.specs.Written.{put-at}
+use Rattle.pieces.proofs.Putting.{put-front}
+use Rattle.stored.specs.Same.{same}
+use Rattle.words.specs.Answers.{GIVES, LinkOutcome, REFUSES, link-by, link-read, link-text, links, read-text, within, write-linked}
+use Rattle.words.specs.Linking.{link, plan-of, stands-for, stock-token}
+use Rattle.words.specs.Stock.{FAULT, Stock, WORDS, stock}
+use Rattle.words.specs.declared.LinkAnswer.{LinkAnswer}
+use Rattle.words.specs.declared.LinkAnswer.the-variants.{Linked, Refused}
+use Rattle.words.specs.declared.LinkRefusal.the-variants.{BadWords, Text, Overfull, OutShort}
+use Rattle.words.proofs.Linked.{allowed-link}
+use Rattle.shelf.specs.Shelf.{Readable, Shelved, linked-text, stands-to, word-of, words-to}
+use Rattle.shelf.proofs.Noting.{noted-nothing}
+use Rattle.shelf.proofs.Standing.{shelved-below}
+use Rattle.measuring.specs.Weights.{Weighable, Weighed, weight}
+use Rattle.measuring.specs.declared.Weight.{Weight}
+use Rattle.splicing.specs.Splicing.{Placed, Writable}
+use Rattle.vetting.specs.Vetting.{JudgedShelved, judged-told}
+use Rattle.vetting.specs.declared.Judged.{Judged}
+use Rattle.vetting.specs.declared.Judged.the-variants.{Bad, Words}
+use Rattle.linking.specs.Calls.{Links}
+use Rattle.linking.specs.Parts.{LinkWrites, Stocked}
+
+-- a text that reads has allowed tokens, and so has what it links to
+readable-allowed : {text : List ℕ} → Readable text → Allowed tokenLimit (plan-of tokenLimit text)
+readable-allowed {text} r = shows-allowed (plan-of tokenLimit text) (r .shows)
+
+stands-allowed : (list starts : List ℕ) (n : ℕ) → Shelved list starts n → (t : List ℕ) (q : Plan ℕ) → stands-to list starts n t ≡ some q → Allowed tokenLimit q
+unfolding words-to stands-for
+stands-allowed list starts zero s t q e = absurd (let z : _≡_ {A = ℕ} 0 1 = cc in omega arith)
+stands-allowed list starts (suc n) s t q e = go (same t (stock-token (word-of list starts n))) e (stands-allowed list starts n (shelved-below (omega arith) s))
+  where
+    older : Plan ℕ
+    older = link (λ u. stands-to list starts n u) (plan-of tokenLimit (word-of list starts n .text))
+
+    go : (b : Bool) → cond b (some older) (stands-to list starts n t) ≡ some q
+        → ((u : List ℕ) (z : Plan ℕ) → stands-to list starts n u ≡ some z → Allowed tokenLimit z) → Allowed tokenLimit q
+    go true h more =
+        let is : older ≡ q = cc in
+        subst (λ z. Allowed tokenLimit z) is
+        (allowed-link (λ u. stands-to list starts n u) tokenLimit (plan-of tokenLimit (word-of list starts n .text)) (readable-allowed (s .reads n (omega arith))) more)
+    go false h more = more t q h
+
+-- nothing is remembered yet
+pub weighed-nothing : (list starts : List ℕ) → Weighed list starts (replicate 512 0)
+weighed-nothing list starts r a b e = noted-nothing 512 r e
+
+placed-nothing : (list starts out : List ℕ) → Placed list starts (replicate 512 0) out 0
+placed-nothing list starts out r a b e = noted-nothing 512 r e
+
+module _ {list starts : List ℕ} {count : ℕ} (s : Stocked list starts count) {text : List ℕ} (r : Readable text) where
+  pub weighable : Weighable list starts text count (replicate 512 0)
+  weighable =
+      record { shelved = s .shelved; readable = r; known = weighed-nothing list starts; long = omega (arith, s .few, length-replicate {A = ℕ} 512 0) }
+
+  plan : Plan ℕ
+  plan = linked-text list starts count text
+
+  fine : Allowed tokenLimit plan
+  unfolding plan linked-text
+  fine = allowed-link (stands-to list starts count) tokenLimit (plan-of tokenLimit text) (readable-allowed r) (stands-allowed list starts count (s .shelved))
+
+  module _ {w : Weight} (weighs : w ≡ weight (linked-text list starts count text)) where
+    -- past the limit
+    pub link-overfull : (out : List ℕ) → cellLimit < w .cells → LinkWrites (within standard (linked-text list starts count text)) out (Refused Overfull) out
+    unfolding weight within write-linked
+    link-overfull out h =
+        let over : cellLimit < cells (linked-text list starts count text) = omega (arith, ap (λ (x : Weight). x .cells) weighs) in
+        record { answer = rw (lt-leb (cells (linked-text list starts count text)) cellLimit over) refl; output = rw (lt-leb (cells (linked-text list starts count text)) cellLimit over) refl }
+
+    module _ (h : w .cells ≤ cellLimit) where
+      cells-are : w .cells ≡ cells (linked-text list starts count text)
+      unfolding weight
+      cells-are = omega (arith, ap (λ (x : Weight). x .cells) weighs)
+
+      printed-small : length (print (linked-text list starts count text)) ≤ 262144
+      unfolding plan
+      printed-small = omega (arith, cells-are, print-bound tokenLimit (linked-text list starts count text) (omega arith) fine)
+
+      length-is : w .length ≡ length (print (linked-text list starts count text))
+      unfolding weight
+      length-is = omega (arith, ap (λ (x : Weight). x .length) weighs, printed-small)
+
+      gives : within standard (linked-text list starts count text) ≡ GIVES (linked-text list starts count text)
+      unfolding within
+      gives = rw (le-leb (cells (linked-text list starts count text)) cellLimit (omega (arith, cells-are))) refl
+
+      pub link-short : (out : List ℕ) → length out < w .length → LinkWrites (within standard (linked-text list starts count text)) out (Refused (OutShort (w .length))) out
+      unfolding write-linked
+      link-short out l =
+          let test = lt-leb (length (print (linked-text list starts count text))) (length out) (omega (arith, length-is)) in
+          record { answer = rw (gives, test) (ap (λ n. Refused (OutShort n)) length-is); output = rw (gives, test) refl }
+
+      module _ (out : List ℕ) (room : w .length ≤ length out) where
+        pub writable : (weights : List ℕ) → Weighed list starts weights → length weights ≡ 512 → Writable list starts text count weights (replicate 512 0) out 0
+        writable weights known long =
+            record {
+              ready =
+                  record {
+                    shelved = s .shelved;
+                    known = known;
+                    weights-long = omega (arith, s .few);
+                    placed = placed-nothing list starts out;
+                    places-long = omega (arith, s .few, length-replicate {A = ℕ} 512 0);
+                  };
+              readable = r;
+              room = omega (arith, length-is);
+              small = omega (arith, printed-small);
+            }
+
+        pub link-written : (out′ : List ℕ) → out′ ≡ put-at out 0 (print (linked-text list starts count text))
+            → LinkWrites (within standard (linked-text list starts count text)) out (Linked (w .cells) (w .length)) out′
+        unfolding write-linked
+        link-written out′ e =
+            let test = le-leb (length (print (linked-text list starts count text))) (length out) (omega (arith, length-is)) in
+            record {
+              answer = rw (gives, test) (ap₂ Linked cells-are length-is);
+              output = rw (gives, test) (e ∙ put-front (print (linked-text list starts count text)) out);
+            }
+
+-- a text with a fault, and one that reads
+module _ (list starts : List ℕ) (count : ℕ) (text out : List ℕ) where
+  pub fault-written : {f : TextFault} → read-text standard text ≡ REFUSED (BadText f)
+      → LinkWrites (link-read standard (words-to list starts count) (read-text standard text)) out (Refused (Text f)) out
+  unfolding link-read write-linked
+  fault-written e = record { answer = rw e refl; output = rw e refl }
+
+  pub fine-written : {r : LinkAnswer} {out′ : List ℕ} → read-text standard text ≡ PLAN (plan-of tokenLimit text)
+      → LinkWrites (within standard (linked-text list starts count text)) out r out′
+      → LinkWrites (link-read standard (words-to list starts count) (read-text standard text)) out r out′
+  unfolding link-read linked-text
+  fine-written {r} {out′} e w = subst (λ x. LinkWrites (link-read standard (words-to list starts count) x) out r out′) (sym e) w
+
+-- a list with a fault, and one that is right
+module _ (list text out : List ℕ) where
+  pub list-bad : {rank : ℕ} → stock standard list ≡ FAULT rank → Links list text out (Refused (BadWords rank)) out
+  unfolding link-text links link-by write-linked
+  list-bad e = record { answer = rw e refl; output = rw e refl }
+
+  pub list-right : (starts : List ℕ) (count : ℕ) {r : LinkAnswer} {out′ : List ℕ} → stock standard list ≡ WORDS (words-to list starts count)
+      → LinkWrites (link-read standard (words-to list starts count) (read-text standard text)) out r out′ → Links list text out r out′
+  unfolding link-text links link-by
+  list-right starts count e w = record { answer = rw e (w .answer); output = rw e (w .output) }
+
+-- what the judge said of the list
+module _ (list starts : List ℕ) {j : Judged} where
+  pub judged-bad : {rank : ℕ} → stock standard list ≡ judged-told list starts j → j ≡ Bad rank → stock standard list ≡ FAULT rank
+  judged-bad told e = told ∙ ap (judged-told list starts) e
+
+  pub judged-right : {count : ℕ} → stock standard list ≡ judged-told list starts j → j ≡ Words count → stock standard list ≡ WORDS (words-to list starts count)
+  judged-right told e = told ∙ ap (judged-told list starts) e
+
+  pub judged-stocked : {count : ℕ} → JudgedShelved list starts j → j ≡ Words count → Stocked list starts count
+  judged-stocked shelved e = let (s, few) = subst (JudgedShelved list starts) e shelved in record { shelved = s; few = few }

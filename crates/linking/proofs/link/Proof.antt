@@ -1,0 +1,45 @@
+use borrow.Author.Needs.{needs}
+use Rattle.linking.proofs.Outcomes.{judged-bad, judged-right, judged-stocked, list-bad, list-right}
+use Rattle.linking.proofs.link.Statement.{statement}
+use Rattle.linking.proofs.link.Tie as tie
+
+slice-aggregate-judge : tie.Need-slice-aggregate-judge
+slice-aggregate-judge c = search needs
+
+judge-requires : tie.Need-judge-requires
+judge-requires c κs = search needs
+
+enum-known-rank : tie.Need-enum-known-rank
+enum-known-rank c = search needs
+
+enum-known-count : tie.Need-enum-known-count
+enum-known-count c = search needs
+
+slice-aggregate-link-by : tie.Need-slice-aggregate-link-by
+slice-aggregate-link-by c = search needs
+
+link-by-requires : tie.Need-link-by-requires
+link-by-requires c κs = judged-stocked _ _ (c .before .before .before .before .before .before .judge .ensures .1) (c .before .before .before .count .given .1)
+
+returns : tie.Need-returns
+returns c = list-bad _ _ _ (judged-bad _ _ (c .before .before .before .before .judge .ensures .0) (c .before .rank .given .1))
+
+same-length : tie.Need-same-length
+same-length c = search needs
+
+returns-2 : tie.Need-returns-2
+returns-2 c = list-right _ _ _ _ _ (judged-right _ _ (c .before .before .before .before .before .before .before .before .before .judge .ensures .0) (c .before .before .before .before .before .before .count .given .1)) (c .before .before .link-by .ensures)
+
+pub link-spec : {M : Type 1} → statement M
+link-spec =
+    tie.close
+    (tie.spec
+    slice-aggregate-judge
+    judge-requires
+    enum-known-rank
+    enum-known-count
+    slice-aggregate-link-by
+    link-by-requires
+    returns
+    same-length
+    returns-2)

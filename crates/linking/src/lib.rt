@@ -1,0 +1,95 @@
+// Linking, a service of request 6: the words of a list are put where a text's tokens name them. It is public, asks nothing of its caller,
+// and its contract says for every input what the call answers and leaves (specs/Calls.antt). What it has to remember, a few numbers for
+// each word, stands on the stack.
+ghost use mathlib.Core.Path.{_≡_};
+ghost use Prim.Native.Nat.{_≤_};
+ghost use Rattle.plan.specs.Services.{standard};
+ghost use Rattle.words.specs.Answers.{link-read, read-text, within};
+ghost use Rattle.shelf.specs.Shelf.{Readable, linked-text, words-to};
+ghost use Rattle.linking.specs.Calls.{Links};
+ghost use Rattle.linking.specs.Parts.{LinkWrites, Stocked, TextTells};
+use kinds::Cell;
+use kinds::Place;
+use measuring::weigh;
+use plan::Refusal;
+use plan::TextFault;
+use reader::Surveyed;
+use reader::survey;
+use splicing::write;
+use vetting::Judged;
+use vetting::judge;
+use words::LinkAnswer;
+use words::LinkRefusal;
+
+// What a text is found to be, however many cells it has.
+pub enum TextRead {
+    Fine,
+    Fault(TextFault),
+}
+
+// A text within its limit has no more cells than bytes, so no item is past this room.
+fn read_over(text: &[u8]) -> TextRead
+    ensures { λ r. ⌜ TextTells (now (text .entry)) r ⌝ }
+{
+    if Place::LIMIT < text.len() {
+        return TextRead::Fault(TextFault::TooLong);
+    }
+    match survey(text, Place::LIMIT as u32) {
+        Surveyed::Accepted { cells, length } => TextRead::Fine,
+        Surveyed::Refused(refusal) => match refusal {
+            Refusal::Text(fault) => TextRead::Fault(fault),
+            Refusal::BadArena => TextRead::Fine,
+            Refusal::Overfull(past) => TextRead::Fine,
+            Refusal::OutShort(needed) => TextRead::Fine,
+        },
+    }
+}
+
+// Links a text that reads: it is weighed first, so that nothing is written unless all of it is.
+fn link_readable(
+    list: &[u8],
+    starts: &[u32],
+    count: u32,
+    text: &[u8],
+    output: &mut [u8],
+) -> LinkAnswer
+    requires { ⌜ Stocked (now list) (now starts) count × Readable (now text) ⌝ }
+    ensures { λ r. ⌜ LinkWrites (within standard (linked-text (now (list .entry)) (now (starts .entry)) count (now (text .entry)))) (now (output .entry)) r (now (output .exit)) ⌝ }
+{
+    let mut weights = [0u32; 512];
+    let weight = weigh(list, starts, text, count, &mut weights);
+    if Cell::LIMIT < weight.cells as usize {
+        return LinkAnswer::Refused(LinkRefusal::Overfull);
+    }
+    if output.len() < weight.length as usize {
+        return LinkAnswer::Refused(LinkRefusal::OutShort(weight.length));
+    }
+    let mut places = [0u32; 512];
+    write(list, starts, text, count, &weights, &mut places, output, 0);
+    LinkAnswer::Linked {
+        cells: weight.cells,
+        length: weight.length,
+    }
+}
+
+// Links a text by the words of a list that is right.
+fn link_by(list: &[u8], starts: &[u32], count: u32, text: &[u8], output: &mut [u8]) -> LinkAnswer
+    requires { ⌜ Stocked (now list) (now starts) count ⌝ }
+    ensures { λ r. ⌜ LinkWrites (link-read standard (words-to (now (list .entry)) (now (starts .entry)) count) (read-text standard (now (text .entry)))) (now (output .entry)) r (now (output .exit)) ⌝ }
+{
+    match read_over(text) {
+        TextRead::Fault(fault) => LinkAnswer::Refused(LinkRefusal::Text(fault)),
+        TextRead::Fine => link_readable(list, starts, count, text, output),
+    }
+}
+
+// LINK. The list's fault comes before the text's.
+pub fn link(list: &[u8], text: &[u8], output: &mut [u8]) -> LinkAnswer
+    ensures { λ r. ⌜ Links (now (list .entry)) (now (text .entry)) (now (output .entry)) r (now (output .exit)) ⌝ }
+{
+    let mut starts = [0u32; 256];
+    match judge(list, &mut starts) {
+        Judged::Bad(rank) => LinkAnswer::Refused(LinkRefusal::BadWords(rank)),
+        Judged::Words(count) => link_by(list, &starts, count, text, output),
+    }
+}

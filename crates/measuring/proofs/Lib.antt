@@ -1,0 +1,2 @@
+pub mod WeighedSoFar
+pub mod Weighing

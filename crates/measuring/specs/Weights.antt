@@ -1,0 +1,61 @@
+-- How the code weighs a linked plan: its cells and its printed bytes, which stop growing past the limit, so that nothing wraps. And what is
+-- remembered of the words.
+use Prim.Native.Nat.{ℕ, _+_, _*_, _≤_, _<_, min}
+use mathlib.Core.Path.{_≡_}
+use mathlib.Core.List.{List, _∷_, []}
+use lib.ListN.{length}
+use Rattle.plan.specs.Plan.{Plan, cells, print}
+use Rattle.plan.specs.Pieces.{Piece, in-a-row, pieces, starts}
+use Rattle.pieces.specs.Written.{Is, piece-length}
+use Rattle.pieces.specs.declared.Piece.{Piece as CodePiece}
+use Rattle.pieces.specs.declared.Piece.the-variants.{Operator, Token, Open, Close}
+use Rattle.words.specs.Places.{put-in}
+use Rattle.shelf.specs.Notes.{noted}
+use Rattle.shelf.specs.Shelf.{Readable, Shelved, linked-word, stands-to}
+use Rattle.shelf.specs.declared.Noted.the-variants.{Both}
+use Rattle.measuring.specs.declared.AtHand.{AtHand}
+use Rattle.measuring.specs.declared.AtHand.the-variants.{Known, Word}
+use Rattle.measuring.specs.declared.Weight.{Weight}
+
+-- one more than a plan may have, and than its printed text can have
+abbrev pub pastCells : ℕ
+pastCells = 4097
+
+abbrev pub pastBytes : ℕ
+pastBytes = 262145
+
+abbrev pub weighing : (cells bytes : ℕ) → Weight
+weighing cells bytes = record { cells = min cells pastCells; length = min bytes pastBytes }
+
+unfoldable pub weight : {L : Type 0} → Plan L → Weight
+weight p = weighing (cells p) (length (print p))
+
+-- the same of pieces in a row
+unfoldable pub weight-of : {L : Type 0} → List (Piece L) → Weight
+weight-of ps = weighing (length (starts ps)) (length (in-a-row ps))
+
+unfoldable pub plus : Weight → Weight → Weight
+plus a b = weighing (a .cells + b .cells) (a .length + b .length)
+
+-- a piece of the code begins an item, but for a `]`
+abbrev pub piece-cells : CodePiece → ℕ
+piece-cells (Operator o) = 1
+piece-cells (Token k) = 1
+piece-cells Open = 1
+piece-cells Close = 0
+
+-- what is remembered of a word is the weight of its linked plan
+abbrev pub Weighed : (list starts notes : List ℕ) → Type 0
+Weighed list starts notes = (r a b : ℕ) → noted notes r ≡ Both a b → weight (linked-word list starts r) ≡ record { cells = a; length = b }
+
+-- a text can be weighed by the words of the ranks below n
+pub record Weighable (list starts text : List ℕ) (n : ℕ) (notes : List ℕ) : Type 0 where
+  pub shelved : Shelved list starts n
+  pub readable : Readable text
+  pub known : Weighed list starts notes
+  pub long : 2 * n ≤ length notes
+
+-- the weight of what is put for a piece is at hand, or it is a word's, which is not remembered
+abbrev pub AtHandTells : (list starts : List ℕ) → (n : ℕ) → AtHand → Piece ℕ → Type 0
+AtHandTells list starts n (Known w) x = w ≡ weight-of (put-in (stands-to list starts n) x)
+AtHandTells list starts n (Word r) x = (r < n) × (put-in (stands-to list starts n) x ≡ pieces (linked-word list starts r))

@@ -1,0 +1,138 @@
+// Writes a linked plan: the text's pieces in a row, with a word's linked text where its token stands. A word is written once and then
+// copied from the output, and one that links to nothing is not entered: so the work is that of walking each text once, and of the bytes
+// that are written.
+ghost use mathlib.Core.Path.{_≡_};
+ghost use Prim.Native.Nat.{ℕ, _+_, _≤_, _<_, _*_};
+ghost use mathlib.Core.Bool.{true};
+ghost use mathlib.Core.List.{List, []};
+ghost use lib.ListN.{length, take, drop};
+ghost use Rattle.plan.specs.Pieces.{Piece as PlanPiece};
+ghost use Rattle.plan.specs.Plan.{print};
+ghost use Rattle.pieces.specs.Written.{Is, put-at};
+ghost use Rattle.shelf.specs.Shelf.{PieceStands, Shelved, linked-text, linked-word};
+ghost use Rattle.measuring.specs.Weights.{Weighed};
+ghost use Rattle.splicing.specs.Splicing.{Placed, PuttingTells, WordTells, Writable};
+use items::Cursor;
+use items::NextPiece;
+use items::next;
+use pieces::Piece;
+use pieces::put_piece;
+use shelf::Named;
+use shelf::Noted;
+use shelf::find_piece;
+use shelf::note;
+use shelf::recall;
+use shelf::text_at;
+
+// What is put for a piece: the piece itself, bytes that stand in the output already, or a word that was not written yet.
+pub enum Putting {
+    Itself,
+    Copy { from: usize, len: usize },
+    Word(u32),
+}
+
+// Copies bytes of the output to a place behind them.
+fn copy_on(out: &mut [u8], from: usize, len: usize, put: usize)
+    requires { ⌜ (from + len ≤ put) × (put + len ≤ length (now out)) ⌝ }
+    ensures { λ _. ⌜ now (out .exit) ≡ put-at (now (out .entry)) put (take len (drop from (now (out .entry)))) ⌝ }
+{
+    let mut done = 0;
+    while done < len {
+        out[put + done] = out[from + done];
+        done += 1;
+    }
+}
+
+// Whether a word was weighed and links to nothing.
+fn is_nothing(weights: &[u32], word: u32) -> bool
+    requires { ⌜ 2 * word + 1 < length (now weights) ⌝ }
+    ensures { λ r. ⌜ ((list starts : List ℕ) → Weighed list starts (now (weights .entry)) → r ≡ true → print (linked-word list starts word) ≡ []) ⌝ }
+{
+    match recall(weights, word) {
+        Noted::Nothing => false,
+        Noted::Both(cells, length) => cells == 0,
+    }
+}
+
+// What is put for a word.
+fn put_for_word(weights: &[u32], places: &[u32], word: u32) -> Putting
+    requires { ⌜ (2 * word + 1 < length (now weights)) × (2 * word + 1 < length (now places)) ⌝ }
+    ensures { λ r. ⌜ ((list starts out : List ℕ) (put : ℕ) → Weighed list starts (now (weights .entry)) → Placed list starts (now (places .entry)) out put → WordTells list starts out put word r) ⌝ }
+{
+    if is_nothing(weights, word) {
+        return Putting::Copy { from: 0, len: 0 };
+    }
+    match recall(places, word) {
+        Noted::Nothing => Putting::Word(word),
+        Noted::Both(from, len) => Putting::Copy {
+            from: from as usize,
+            len: len as usize,
+        },
+    }
+}
+
+// What is put for a piece.
+fn put_for(
+    list: &[u8],
+    starts: &[u32],
+    text: &[u8],
+    below: u32,
+    weights: &[u32],
+    places: &[u32],
+    piece: Piece,
+) -> Putting
+    requires { ⌜ Shelved (now list) (now starts) below × (2 * below ≤ length (now weights)) × (2 * below ≤ length (now places)) × PieceStands (now text) piece ⌝ }
+    ensures { λ r. ⌜ ((out : List ℕ) (put : ℕ) (x : PlanPiece ℕ) → Weighed (now (list .entry)) (now (starts .entry)) (now (weights .entry)) → Placed (now (list .entry)) (now (starts .entry)) (now (places .entry)) out put → Is (now (text .entry)) piece x → PuttingTells (now (list .entry)) (now (starts .entry)) below out put r x) ⌝ }
+{
+    match find_piece(list, starts, below, text, piece) {
+        Named::Unlisted => Putting::Itself,
+        Named::Listed(word) => put_for_word(weights, places, word),
+    }
+}
+
+// Writes a text's plan, linked by the words of the ranks below a bound, and gives the place behind it. A word that it uses and that was not
+// written yet is written by this same function: its rank is smaller, so this ends.
+pub fn write(
+    list: &[u8],
+    starts: &[u32],
+    text: &[u8],
+    below: u32,
+    weights: &[u32],
+    places: &mut [u32],
+    out: &mut [u8],
+    put: usize,
+) -> usize
+    requires { ⌜ Writable (now list) (now starts) (now text) below (now weights) (now places) (now out) put ⌝ }
+    ensures behind { λ r. ⌜ r ≡ put + length (print (linked-text (now (list .entry)) (now (starts .entry)) below (now (text .entry)))) ⌝ }
+    ensures written { λ r. ⌜ now (out .exit) ≡ put-at (now (out .entry)) put (print (linked-text (now (list .entry)) (now (starts .entry)) below (now (text .entry)))) ⌝ }
+    ensures placed { λ r. ⌜ Placed (now (list .entry)) (now (starts .entry)) (now (places .exit)) (now (out .exit)) r ⌝ }
+    ensures as_long { λ r. ⌜ length (now (places .exit)) ≡ length (now (places .entry)) ⌝ }
+{
+    let mut end = put;
+    let mut cursor = Cursor { at: 0 };
+    loop {
+        match next(text, cursor) {
+            NextPiece::End => return end,
+            NextPiece::Piece { piece, at, rest } => {
+                match put_for(list, starts, text, below, weights, places, piece) {
+                    Putting::Itself => {
+                        put_piece(text, piece, out, end);
+                        end += piece.length() as usize;
+                    }
+                    Putting::Copy { from, len } => {
+                        copy_on(out, from, len, end);
+                        end += len;
+                    }
+                    Putting::Word(word) => {
+                        let place = starts[word as usize] as usize;
+                        let used = text_at(list, place);
+                        let behind = write(list, starts, used, word, weights, places, out, end);
+                        note(places, word, end as u32, (behind - end) as u32);
+                        end = behind;
+                    }
+                }
+                cursor = rest;
+            }
+        }
+    }
+}

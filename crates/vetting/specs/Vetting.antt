@@ -1,0 +1,95 @@
+-- How the code judges a word list: first the words that are right by themselves, up to the first that is not; then the least of these
+-- that a word of the same or a smaller rank uses. Each text is walked a fixed number of times.
+use Prim.Native.Nat.{ℕ, zero, suc, _≤_, _+_}
+use mathlib.Core.Path.{_≡_}
+use mathlib.Core.Bool.{Bool, true, false, cond, not, _&&_}
+use mathlib.Core.List.{List, [], _∷_}
+use lib.Dec.{leb, ltb}
+use lib.ListN.{length, drop}
+use Rattle.kinds.specs.Limits.{tokenLimit}
+use Rattle.plan.specs.Pieces.{Piece}
+use Rattle.plan.specs.Services.{Limits, standard}
+use Rattle.plan.specs.Token.{allowed}
+use Rattle.stored.specs.Counted.{AtFront, CUT, FRONT}
+use Rattle.words.specs.Linking.{Word, listed, percent, stock-token, used}
+use Rattle.words.specs.Stock.{FAULT, Stock, WORDS, fits, word, wordLimit}
+use Rattle.shelf.specs.Shelf.{Shelved, seek-piece, word-of, words-to}
+use Rattle.shelf.specs.declared.Named.{Named}
+use Rattle.shelf.specs.declared.Named.the-variants.{Unlisted, Listed}
+use Rattle.vetting.specs.declared.Judged.{Judged}
+use Rattle.vetting.specs.declared.Judged.the-variants.{Bad, Words}
+use Rattle.vetting.specs.declared.Shelf.{Shelf}
+use Rattle.vetting.specs.declared.WordEnd.{WordEnd}
+use Rattle.vetting.specs.declared.WordEnd.the-variants.{Unfit, Fit}
+
+-- the words that fit, the newest first; and whether they are all, with no byte behind them
+pub record Fitting : Type 0 where
+  pub words : List Word
+  pub whole : Bool
+
+unfoldable pub next-fitting : Limits → (older : List Word) → AtFront Word → (Word → List ℕ → Fitting) → Fitting
+next-fitting lim older CUT later = record { words = older; whole = false }
+next-fitting lim older (FRONT w rest) later = cond (fits lim older w) (later w rest) (record { words = older; whole = false })
+
+unfoldable pub fitting : Limits → (more : ℕ) → (older : List Word) → List ℕ → Fitting
+fitting lim zero older [] = record { words = older; whole = true }
+fitting lim zero older (b ∷ bs) = record { words = older; whole = false }
+fitting lim (suc more) older bs = next-fitting lim older (word bs) (λ w rest. fitting lim more (w ∷ older) rest)
+
+-- the least rank that a word of the same or a smaller rank uses, else as many as there are
+unfoldable pub earliest : (limit : ℕ) → List Word → ℕ
+earliest limit [] = 0
+earliest limit (w ∷ older) =
+    let before = earliest limit older in
+    cond (ltb before (length older)) before (cond (used limit (stock-token w) (w ∷ older)) (length older) (suc (length older)))
+
+-- a name by itself: not empty, and with `%` before it an allowed token
+abbrev pub is-name : List ℕ → Bool
+is-name name = leb 1 (length name) && allowed tokenLimit (percent ∷ name)
+
+-- .. and that none of these words has
+abbrev pub is-new-name : (older : List Word) → List ℕ → Bool
+is-new-name older name = is-name name && not (listed (percent ∷ name) older)
+
+-- the words of the ranks below n have names of their own
+abbrev pub OwnNames : (list starts : List ℕ) → (n : ℕ) → Type 0
+OwnNames list starts n = (r : ℕ) → suc r ≤ n → listed (stock-token (word-of list starts r)) (words-to list starts r) ≡ false
+
+-- the lower of a bound and the rank that was found, where that is not below `rank`
+abbrev pub lower : Named → (rank bound : ℕ) → ℕ
+lower Unlisted rank bound = bound
+lower (Listed found) rank bound = cond (ltb found rank) bound found
+
+-- the least rank from `rank` up to the bound that the pieces name, else the bound
+unfoldable pub lowered : {L : Type 0} → (list starts : List ℕ) → (rank bound : ℕ) → List (Piece L) → ℕ
+lowered list starts rank bound [] = bound
+lowered list starts rank bound (x ∷ ps) = lowered list starts rank (lower (seek-piece list starts bound x) rank bound) ps
+
+-- one word judged by itself, at a place, behind words that fit
+pub record FitThere (list : List ℕ) (older : List Word) (at next : ℕ) : Type 0 where
+  pub which : Word
+  pub there : word (drop at list) ≡ FRONT which (drop next list)
+  pub fit : fits standard older which ≡ true
+  pub behind : next ≡ at + 8 + length (which .name) + length (which .text)
+  pub within : next ≤ length list
+
+unfoldable pub fit-front : Limits → (older : List Word) → AtFront Word → Bool
+fit-front lim older CUT = false
+fit-front lim older (FRONT w rest) = fits lim older w
+
+abbrev pub EndTells : (list : List ℕ) → (older : List Word) → (at : ℕ) → WordEnd → Type 0
+EndTells list older at Unfit = fit-front standard older (word (drop at list)) ≡ false
+EndTells list older at (Fit next) = FitThere list older at next
+
+-- the words that were found to fit
+abbrev pub shelf-told : (list starts : List ℕ) → Shelf → Fitting
+shelf-told list starts s = record { words = words-to list starts (s .fit); whole = s .whole }
+
+-- what was found of the whole list
+abbrev pub judged-told : (list starts : List ℕ) → Judged → Stock
+judged-told list starts (Bad rank) = FAULT rank
+judged-told list starts (Words count) = WORDS (words-to list starts count)
+
+abbrev pub JudgedShelved : (list starts : List ℕ) → Judged → Type 0
+JudgedShelved list starts (Bad rank) = Unit {0}
+JudgedShelved list starts (Words count) = Shelved list starts count × (count ≤ wordLimit)
