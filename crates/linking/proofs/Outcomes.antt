@@ -1,15 +1,15 @@
 -- What is answered is the outcome's answer: the list's fault, the text's, too many cells, too short an output, or the linked text.
-use Prim.Native.Nat.{ℕ, zero, suc, _+_, _*_, _≤_, _<_, min}
+use Prim.Native.Nat.{ℕ, zero, suc, _≤_, _<_}
 use mathlib.Core.Path.{_≡_, refl, ap, ap₂, sym, subst, _∙_}
 use mathlib.Core.Bool.{Bool, true, false, cond}
-use mathlib.Core.Option.{Option, none, some}
-use mathlib.Core.List.{List, [], _++_}
+use mathlib.Core.Option.{some}
+use mathlib.Core.List.{List}
 use native.Mathlib.Omega.{arith}
 use borrow.Author.Tests.{le-leb, lt-leb}
 use lib.ListN.{length, length-replicate, replicate}
 use Rattle.kinds.specs.Limits.{cellLimit, tokenLimit}
 use Rattle.plan.specs.Plan.{Plan, cells, print}
-use Rattle.plan.specs.Reading.{PLAN, REFUSED, Reading}
+use Rattle.plan.specs.Reading.{PLAN, REFUSED}
 use Rattle.plan.specs.Services.{standard}
 use Rattle.plan.specs.Token.{Allowed}
 use Rattle.plan.specs.declared.Refusal.the-variants.{Text as BadText}
@@ -19,9 +19,9 @@ use Rattle.plan.proofs.ReadBack.{print-bound}
 use Rattle.pieces.specs.Written.{put-at}
 use Rattle.pieces.proofs.Putting.{put-front}
 use Rattle.stored.specs.Same.{same}
-use Rattle.words.specs.Answers.{GIVES, LinkOutcome, REFUSES, link-by, link-read, link-text, links, read-text, within, write-linked}
+use Rattle.words.specs.Answers.{GIVES, link-by, link-read, link-text, links, read-text, within, write-linked}
 use Rattle.words.specs.Linking.{link, plan-of, stands-for, stock-token}
-use Rattle.words.specs.Stock.{FAULT, Stock, WORDS, stock}
+use Rattle.words.specs.Stock.{FAULT, WORDS, stock}
 use Rattle.words.specs.declared.LinkAnswer.{LinkAnswer}
 use Rattle.words.specs.declared.LinkAnswer.the-variants.{Linked, Refused}
 use Rattle.words.specs.declared.LinkRefusal.the-variants.{BadWords, Text, Overfull, OutShort}

@@ -1,8 +1,6 @@
 // Linking, a service of request 6: the words of a list are put where a text's tokens name them. It is public, asks nothing of its caller,
 // and its contract says for every input what the call answers and leaves (specs/Calls.antt). What it has to remember, a few numbers for
 // each word, stands on the stack.
-ghost use mathlib.Core.Path.{_≡_};
-ghost use Prim.Native.Nat.{_≤_};
 ghost use Rattle.plan.specs.Services.{standard};
 ghost use Rattle.words.specs.Answers.{link-read, read-text, within};
 ghost use Rattle.shelf.specs.Shelf.{Readable, linked-text, words-to};

@@ -9,7 +9,7 @@ use Rattle.pieces.specs.declared.Piece.{Piece as CodePiece}
 use Rattle.items.specs.Walk.{Passed}
 use Rattle.words.specs.Places.{put-in}
 use Rattle.shelf.specs.Notes.{noted, with-note}
-use Rattle.shelf.specs.Shelf.{Readable, linked-text, linked-word, stands-to, word-from, word-of}
+use Rattle.shelf.specs.Shelf.{Readable, linked-text, linked-word, stands-to, word-from}
 use Rattle.shelf.proofs.Noting.{noted-long, noted-right}
 use Rattle.shelf.proofs.Standing.{LinkedSoFar, linked-first, linked-on, shelved-below, word-text}
 use Rattle.measuring.specs.declared.Weight.{Weight}

@@ -1,13 +1,13 @@
 -- Weights add up along pieces, and what is remembered stays right where one more is.
-use Prim.Native.Nat.{ℕ, _+_, _*_, _≤_, _<_, min}
+use Prim.Native.Nat.{ℕ, _+_, _≤_, _<_, min}
 use mathlib.Core.Path.{_≡_, refl, ap, ap₂, sym, subst, _∙_}
 use mathlib.Core.List.{List, [], _∷_, _++_, append-nil}
 use native.Mathlib.Omega.{arith}
 use lib.ListN.{length, length-append}
 use Rattle.plan.specs.Plan.{Plan}
-use Rattle.plan.specs.Pieces.{Piece, TOKEN, in-a-row, piece-print, pieces, starts}
+use Rattle.plan.specs.Pieces.{Piece, in-a-row, piece-print, pieces, starts}
 use Rattle.plan.proofs.Pieces.{cells-pieces, print-pieces, row-append, starts-append}
-use Rattle.pieces.specs.Written.{Is, TokenAt, is-close, is-open, is-operator, is-token, piece-bytes, piece-length}
+use Rattle.pieces.specs.Written.{Is, is-close, is-open, is-operator, is-token, piece-length}
 use Rattle.pieces.specs.declared.Piece.{Piece as CodePiece}
 use Rattle.pieces.specs.declared.Piece.the-variants.{Operator, Token, Open, Close}
 use Rattle.pieces.proofs.Pieces.{is-in-text, is-printed, length-piece}

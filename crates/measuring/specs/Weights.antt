@@ -2,11 +2,10 @@
 -- remembered of the words.
 use Prim.Native.Nat.{ℕ, _+_, _*_, _≤_, _<_, min}
 use mathlib.Core.Path.{_≡_}
-use mathlib.Core.List.{List, _∷_, []}
+use mathlib.Core.List.{List}
 use lib.ListN.{length}
 use Rattle.plan.specs.Plan.{Plan, cells, print}
 use Rattle.plan.specs.Pieces.{Piece, in-a-row, pieces, starts}
-use Rattle.pieces.specs.Written.{Is, piece-length}
 use Rattle.pieces.specs.declared.Piece.{Piece as CodePiece}
 use Rattle.pieces.specs.declared.Piece.the-variants.{Operator, Token, Open, Close}
 use Rattle.words.specs.Places.{put-in}

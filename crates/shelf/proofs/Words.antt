@@ -6,7 +6,7 @@ use mathlib.Core.List.{List, []}
 use native.Mathlib.Omega.{arith}
 use lib.ListN.{length, take, drop}
 use Rattle.plan.proofs.Tests.{never}
-use Rattle.stored.specs.Counted.{AtFront, CUT, FRONT, counted, then-read}
+use Rattle.stored.specs.Counted.{CUT, FRONT, counted, then-read}
 use Rattle.stored.specs.Places.{run-at}
 use Rattle.stored.specs.Same.{same}
 use Rattle.stored.specs.declared.RunAt.{RunAt}

@@ -1,6 +1,6 @@
 // What was worked out for a word, remembered by its rank in lent numbers.
 ghost use mathlib.Core.Path.{_≡_};
-ghost use Prim.Native.Nat.{_+_, _*_, _<_, _≤_};
+ghost use Prim.Native.Nat.{_+_, _*_, _<_};
 ghost use lib.ListN.{length};
 ghost use Rattle.shelf.specs.Notes.{noted, with-note};
 use crate::Noted;

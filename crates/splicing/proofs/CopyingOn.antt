@@ -4,7 +4,7 @@ use mathlib.Core.Path.{_≡_, ap, sym, subst, _∙_}
 use mathlib.Core.List.{List}
 use native.Mathlib.Omega.{arith}
 use lib.ListN.{drop, getD, length, length-drop, set, take}
-use lib.Seq.{getD-take, length-take-le, paste, take-append-le, take-paste, take-take}
+use lib.Seq.{getD-take, length-take-le, take-append-le, take-paste, take-take}
 use Rattle.pieces.proofs.Copying.{Copying, copy-more}
 
 module _ (out₀ : List ℕ) (put from len : ℕ) (out : List ℕ) (done : ℕ) (inv : Copying out₀ out₀ put from len out done) (behind : from + len ≤ put) where

@@ -3,7 +3,7 @@ use Prim.Native.Nat.{ℕ, _+_, _≤_}
 use mathlib.Core.Path.{_≡_, ap, ap₂, sym, _∙_}
 use mathlib.Core.List.{List, _++_, append-assoc}
 use native.Mathlib.Omega.{arith}
-use lib.ListN.{drop, length, length-append, take}
+use lib.ListN.{drop, length, take}
 use lib.Seq.{drop-at, length-take-le, take-add, take-append-le, take-append-seam, take-take}
 use Rattle.pieces.specs.Written.{put-at}
 use Rattle.splicing.specs.Splicing.{StandsBefore}

@@ -8,6 +8,7 @@ use io::print_decimal;
 use io::write_all;
 use libc::STDOUT_FILENO;
 use plan::Answer;
+use plan::Numbers;
 
 // What could not be written is said on standard error.
 pub fn mind(written: bool) {
@@ -36,8 +37,7 @@ fn tell_next(number: u32) -> bool {
 }
 
 // Number, steps, cells, length and place in decimal, with one SP between; whether all could be written.
-pub fn tell_numbers(answer: Answer) -> bool {
-    let numbers = answer.numbers();
+pub fn tell_five(numbers: Numbers) -> bool {
     if !print_decimal(STDOUT_FILENO, wide(numbers.number)) {
         return false;
     }
@@ -51,6 +51,10 @@ pub fn tell_numbers(answer: Answer) -> bool {
         return false;
     }
     tell_next(numbers.place)
+}
+
+pub fn tell_numbers(answer: Answer) -> bool {
+    tell_five(answer.numbers())
 }
 
 // How many bytes of the output are the printed text; a refusal has none.

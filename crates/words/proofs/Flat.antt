@@ -5,7 +5,7 @@ use mathlib.Core.Path.{_≡_, refl, ap, _∙_}
 use mathlib.Core.Option.{Option, none, some}
 use mathlib.Core.List.{List, [], _∷_, _++_, append-assoc}
 use Rattle.plan.specs.Plan.{Plan, end, operator, token, block}
-use Rattle.plan.specs.Pieces.{Piece, OP, TOKEN, BEGIN, END, pieces}
+use Rattle.plan.specs.Pieces.{Piece, OP, TOKEN, END, pieces}
 use Rattle.plan.proofs.Pieces.{pieces-then}
 use Rattle.words.specs.Linking.{in-place, link}
 use Rattle.words.specs.Places.{linked-pieces, put-for, put-in}

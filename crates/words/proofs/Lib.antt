@@ -2,3 +2,4 @@ pub mod Cells
 pub mod Flat
 pub mod Linked
 pub mod Listing
+pub mod Worked

@@ -2,3 +2,4 @@ pub mod Answers
 pub mod Linking
 pub mod Places
 pub mod Stock
+pub mod Worked

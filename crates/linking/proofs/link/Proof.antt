@@ -1,3 +1,4 @@
+-- `link`: the list's fault comes first.
 use borrow.Author.Needs.{needs}
 use Rattle.linking.proofs.Outcomes.{judged-bad, judged-right, judged-stocked, list-bad, list-right}
 use Rattle.linking.proofs.link.Statement.{statement}

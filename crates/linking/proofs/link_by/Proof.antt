@@ -1,3 +1,4 @@
+-- `link_by`: the text's fault, or what is put for a text that reads.
 use borrow.Author.Needs.{needs}
 use mathlib.Core.Path.{subst}
 use Rattle.linking.proofs.Outcomes.{fault-written, fine-written}

@@ -1,5 +1,5 @@
+-- `link_readable`: what was weighed is the linked plan, up to the limit.
 use borrow.Author.Needs.{needs}
-use native.Mathlib.Omega.{arith}
 use Rattle.linking.proofs.Outcomes.{link-overfull, link-short, link-written, weighable, writable}
 use Rattle.linking.proofs.link_readable.Statement.{statement}
 use Rattle.linking.proofs.link_readable.Tie as tie

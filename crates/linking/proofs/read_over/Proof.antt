@@ -1,5 +1,5 @@
+-- `read_over`: a text within its limit is refused by a fault alone.
 use borrow.Author.Needs.{needs}
-use mathlib.Core.Path.{sym, _∙_}
 use Rattle.plan.proofs.Tests.{never}
 use Rattle.linking.proofs.TextReads.{read-fault, read-fine, read-never, read-too-long}
 use Rattle.linking.proofs.read_over.Statement.{statement}

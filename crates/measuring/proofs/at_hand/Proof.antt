@@ -1,3 +1,4 @@
+-- `at_hand`: a piece that names no word stays; a word is remembered, or is not.
 use borrow.Author.Needs.{needs}
 use native.Mathlib.Omega.{arith}
 use Rattle.measuring.proofs.Weighing.{hand-known, hand-stays, hand-word}

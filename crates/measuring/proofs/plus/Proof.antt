@@ -1,3 +1,4 @@
+-- `plus`: each sum is capped.
 use borrow.Author.Needs.{needs}
 use mathlib.Core.Path.{ap₂}
 use Rattle.measuring.specs.Weights.{plus}

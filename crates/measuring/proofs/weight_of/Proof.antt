@@ -1,3 +1,4 @@
+-- `weight_of`: a piece that stays has its own weight.
 use borrow.Author.Needs.{needs}
 use mathlib.Core.Path.{ap, _∙_}
 use Prim.Native.Nat.{min}

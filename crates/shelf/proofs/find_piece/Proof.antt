@@ -1,3 +1,4 @@
+-- `find_piece`: only a token names a word.
 use borrow.Author.Needs.{needs}
 use Rattle.plan.proofs.Tests.{never}
 use Rattle.shelf.proofs.Seeking.{none-named, token-names, token-stands}

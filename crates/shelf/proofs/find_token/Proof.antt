@@ -1,3 +1,4 @@
+-- `find_token`: a token that names a word begins with `%`, and its name stands behind that.
 use borrow.Author.Needs.{needs}
 use mathlib.Core.List.{[]}
 use native.Mathlib.Omega.{arith}

@@ -1,3 +1,4 @@
+-- `is_named`: where a word stands its name is found, and compared.
 use borrow.Author.Needs.{needs}
 use mathlib.Core.Path.{_≡_, sym, _∙_}
 use native.Mathlib.Omega.{arith}

@@ -1,3 +1,4 @@
+-- `text_at`: the text stands behind the name, where both are whole.
 use borrow.Author.Needs.{needs}
 use Prim.Native.Nat.{_+_}
 use mathlib.Core.Path.{_≡_, sym, _∙_}

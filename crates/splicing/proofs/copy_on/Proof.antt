@@ -1,3 +1,4 @@
+-- `copy_on`: the loop's invariant is `Copying`, over the output itself.
 use Prim.Native.Nat.{_+_, _-_, _≤_}
 use native.Mathlib.Omega.{arith}
 use borrow.Author.Needs.{needs}

@@ -1,3 +1,4 @@
+-- `is_nothing`: a word of no cells prints nothing.
 use borrow.Author.Needs.{needs}
 use mathlib.Core.Bool.{false≢true}
 use mathlib.Core.Path.{sym, _∙_}

@@ -1,3 +1,4 @@
+-- `put_for`: a piece that names no word stays.
 use borrow.Author.Needs.{needs}
 use native.Mathlib.Omega.{arith}
 use mathlib.Core.List.{[]}

@@ -1,3 +1,4 @@
+-- `put_for_word`: what is remembered of a word stands in the output.
 use borrow.Author.Needs.{needs}
 use mathlib.Core.Path.{refl, sym, _∙_}
 use native.Mathlib.Omega.{arith}

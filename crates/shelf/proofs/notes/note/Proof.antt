@@ -1,3 +1,4 @@
+-- `note`: the two stores are the definition.
 use borrow.Author.Needs.{needs}
 use mathlib.Core.Path.{refl}
 use Rattle.shelf.specs.Notes.{with-note}

@@ -1,3 +1,4 @@
+-- `recall`: the first number tells whether anything is remembered.
 use borrow.Author.Needs.{needs}
 use mathlib.Core.Path.{refl}
 use borrow.Author.Tests.{eq-eqb, ne-eqb}

@@ -1,0 +1,113 @@
+-- Linking by the empty list gives what TIDY gives, but for OVERFULL's place; and linking what was linked changes nothing.
+use Prim.Native.Nat.{ℕ, _≤_, _<_}
+use mathlib.Core.Path.{_≡_, refl, ap, ap₂, sym, subst, _∙_}
+use mathlib.Core.List.{List}
+use native.Mathlib.Omega.{arith}
+use borrow.Author.Tests.{le-leb, lt-leb, lt-ltb, le-ltb}
+use lib.ListN.{length}
+use Rattle.kinds.specs.Limits.{cellLimit, textLimit}
+use Rattle.plan.specs.declared.Answer.{Answer}
+use Rattle.plan.specs.declared.Answer.the-variants.{Refused}
+use Rattle.plan.specs.declared.Numbers.{Numbers}
+use Rattle.plan.specs.declared.Refusal.the-variants.{Text as BadText}
+use Rattle.plan.specs.declared.TextFault.{TextFault}
+use Rattle.plan.specs.declared.TextFault.the-variants.{TooLong, BadByte, BadToken, Unmatched, Unclosed}
+use Rattle.plan.specs.Pieces.{placed}
+use Rattle.plan.specs.Plan.{Plan, bare, cells, print}
+use Rattle.plan.specs.Reading.{REFUSED, fit, read}
+use Rattle.plan.specs.Services.{accept, as-read, numbers, reads, standard, tidy, write}
+use Rattle.plan.proofs.ReadBack.{bare-placed}
+use Rattle.services.specs.Calls.{Tidies}
+use Rattle.words.specs.Answers.{link-numbers}
+use Rattle.words.specs.Linking.{Word}
+use Rattle.words.specs.declared.LinkAnswer.{LinkAnswer}
+use Rattle.words.specs.declared.LinkRefusal.the-variants.{Text}
+use Rattle.words.proofs.Listing.{link-again}
+use Rattle.linking.specs.Calls.{Links}
+use Rattle.demands.specs.Words.{READ}
+use Rattle.linked.specs.Lists.{HasWords}
+use Rattle.linked.specs.Table.{Faulty, LinkedAs, row-11, rows-13-to-16}
+use Rattle.linked.specs.Words.{IsLinked, ReadsAs, linked-by, no-words, placeless, refusal, saved}
+use Rattle.linked.proofs.Cases.{
+  LinkCase,
+  bad-list,
+  bad-text,
+  call-linked,
+  is-linked,
+  link-case,
+  linked-as,
+  linked-by-words,
+  out-short,
+  over-full,
+  row-stops,
+}
+use Rattle.linked.proofs.Lists.{no-words-has, not-both, one-stock, words-right}
+use Rattle.linked.proofs.Meanings.{accepted-reads, bare-cells, bare-print, linked-back, linked-by-none, linked-same, reads-accepted, reads-over}
+
+-- TIDY refuses a text with a fault for that fault
+fault-refused : {text : List ℕ} {f : TextFault} → Faulty text f → accept standard cellLimit text ≡ REFUSED (BadText f)
+unfolding accept read fit
+fault-refused {text} (row-11 long) = rw (lt-ltb textLimit (length text) long)
+fault-refused {text} (rows-13-to-16 n short row) = rw (le-ltb textLimit (length text) short) (ap (fit cellLimit) (row-stops n text row))
+
+-- and tells the same five numbers of it
+fault-told : (f : TextFault) → refusal (Text f) ≡ placeless (numbers (Refused (BadText f)))
+fault-told TooLong = refl
+fault-told (BadByte at) = refl
+fault-told (BadToken at) = refl
+fault-told (Unmatched at) = refl
+fault-told (Unclosed at) = refl
+
+-- "Linking by the empty list gives what TIDY gives, but for OVERFULL's place, which is 0": the same five numbers and the same bytes
+pub no-words-is-tidy : {text out : List ℕ} {r : LinkAnswer} {s : Answer} {a b : List ℕ}
+    → Links no-words text out r a → Tidies text out s b → (link-numbers r ≡ placeless (numbers s)) × (a ≡ b)
+unfolding tidy reads as-read write
+no-words-is-tidy {text} {out} {r} {s} {a} {b} call tidied = rw (tidied .answer, tidied .output) (go (link-case call))
+  where
+    none-left : {ws : List Word} (p : Plan ℕ) → HasWords no-words ws → linked-by ws p ≡ p
+    none-left p has = ap (λ ws. linked-by ws p) (one-stock has no-words-has) ∙ linked-by-none p
+
+    go : {r : LinkAnswer} {a : List ℕ} → LinkCase no-words text out r a
+        → (link-numbers r ≡ placeless (numbers (tidy standard text out .answer))) × (a ≡ tidy standard text out .output)
+    go (bad-list bad) = not-both bad no-words-has
+    go (bad-text {f = f} has bad) = rw (fault-refused bad) (fault-told f, refl)
+    go (over-full {p = p} has x over) = rw (reads-over x (subst (λ q. cellLimit < cells q) (none-left p has) over)) (refl, refl)
+    go (out-short {p = p} has x few short) =
+        let own : length out < length (print p) = subst (λ q. length out < length (print q)) (none-left p has) short in
+        rw (
+          none-left p has,
+          reads-accepted x cellLimit (subst (λ q. cells q ≤ cellLimit) (none-left p has) few) (omega arith),
+          lt-leb (length (print p)) (length out) own,
+        ) (refl, refl)
+    go (is-linked {p = p} has x few fits) =
+        let own : length (print p) ≤ length out = subst (λ q. length (print q) ≤ length out) (none-left p has) fits in
+        rw (
+          none-left p has,
+          reads-accepted x cellLimit (subst (λ q. cells q ≤ cellLimit) (none-left p has) few) (omega arith),
+          le-leb (length (print p)) (length out) own,
+        ) (refl, refl)
+
+-- "Linking what was linked changes nothing": a second call by the same list on the saved text, with an output long enough for it, tells the
+-- same numbers and saves the same text
+pub link-twice : {list text out out₂ : List ℕ} {r s : LinkAnswer} {a b : List ℕ} → Links list text out r a → IsLinked r
+    → Links list (saved r a) out₂ s b → link-numbers r .length ≤ length out₂ → (link-numbers s ≡ link-numbers r) × (saved s b ≡ saved r a)
+link-twice {list} {text} {out} {out₂} {r} {s} {a} {b} call linked again room =
+    let (ws, p, has, was-read) = linked-by-words call linked in compare ws p has was-read (linked-as call has was-read linked)
+  where
+    compare : (ws : List Word) (p : Plan ℕ) → HasWords list ws → ReadsAs text p → LinkedAs out ws p (link-numbers r) a
+        → (link-numbers s ≡ link-numbers r) × (saved s b ≡ saved r a)
+    compare ws p has was-read x =
+        let q = linked-by ws p in
+        let back : ReadsAs (saved r a) (placed 0 q) =
+        accepted-reads cellLimit (ap (accept standard cellLimit) (x .first) ∙ linked-back has was-read cellLimit (x .few) (omega arith)) in
+        let same : bare (linked-by ws (placed 0 q)) ≡ bare q =
+        linked-same ws (placed 0 q) q (bare-placed 0 q) ∙ ap bare (link-again standard ws (words-right has) p) in
+        let many : cells (linked-by ws (placed 0 q)) ≡ cells q = bare-cells (linked-by ws (placed 0 q)) q same in
+        let text : print (linked-by ws (placed 0 q)) ≡ print q = bare-print (linked-by ws (placed 0 q)) q same in
+        let size = ap (λ (v : Numbers). v .length) (x .numbers) in
+        let did = call-linked again has back (omega (arith, x .few)) (omega (arith, ap length text)) in
+        let y = linked-as again has back did in
+        (y .numbers ∙ ap₂ (λ (c : ℕ) (t : List ℕ). told c (length t)) many text ∙ sym (x .numbers), y .first ∙ text ∙ sym (x .first))
+      where
+        told : (cells length : ℕ) → Numbers
+        told c l = record { number = READ; steps = 0; cells = c; length = l; place = 0 }

@@ -1,0 +1,12 @@
+pub mod Again
+pub mod Cases
+pub mod Cells
+pub mod Instances
+pub mod ItemByItem
+pub mod Lists
+pub mod Meanings
+pub mod Numbers
+pub mod OneAnswer
+pub mod Order
+pub mod Refused
+pub mod Saved

@@ -1,0 +1,109 @@
+-- Laws of what texts and linked plans mean: a text that reads has allowed tokens only, and so has its linked plan, which prints as a text
+-- that reads back; and labels, the places of the items, change nothing of what is held, linked or printed.
+use Prim.Native.Nat.{ℕ, _≤_, _<_}
+use mathlib.Core.Path.{_≡_, refl, ap, ap₂, sym, _∙_}
+use mathlib.Core.Bool.{_||_}
+use mathlib.Core.Option.{Option, none, some}
+use mathlib.Core.List.{List, []}
+use native.Mathlib.Omega.{arith}
+use borrow.Author.Tests.{le-leb, le-ltb, lt-leb}
+use lib.ListN.{length, getD}
+use Rattle.kinds.specs.Limits.{cellLimit, textLimit, tokenLimit}
+use Rattle.plan.specs.declared.Refusal.the-variants.{Overfull}
+use Rattle.plan.specs.Options.{under}
+use Rattle.plan.specs.Pieces.{placed}
+use Rattle.plan.specs.Plan.{Plan, end, operator, token, block, bare, cells, labels, print, relabel}
+use Rattle.plan.specs.Reading.{PLAN, REFUSED, fit, place, read}
+use Rattle.plan.specs.Refusals.{Faultless}
+use Rattle.plan.specs.Services.{accept, standard}
+use Rattle.plan.specs.Token.{Allowed}
+use Rattle.plan.proofs.Plans.{cells-relabel, print-relabel, relabel-then}
+use Rattle.plan.proofs.ReadBack.{Accepted, read-accepted}
+use Rattle.plan.proofs.Refusals.{read-faultless}
+use Rattle.plan.proofs.Slots.{accepted-text, accepts, print-accepted, standard-roomy}
+use Rattle.stored.specs.Same.{same}
+use Rattle.words.specs.Linking.{Word, holds, in-place, link, stands-for}
+use Rattle.words.proofs.Linked.{allowed-link, link-unlisted}
+use Rattle.words.proofs.Listing.{stands-allowed}
+use Rattle.linked.specs.Lists.{HasWords}
+use Rattle.linked.specs.Words.{ReadsAs, linked-by}
+use Rattle.linked.proofs.Lists.{words-right}
+
+module _ {text : List ℕ} {p : Plan ℕ} (reads : ReadsAs text p) where
+  -- with its own cells lent, or more, the text reads as its plan
+  with-room : (n : ℕ) → cells p ≤ n → read tokenLimit n text ≡ PLAN p
+  unfolding read fit
+  with-room n room = ap (fit n) (reads .reads) ∙ rw (le-leb (cells p) n room)
+
+  pub reads-faultless : Faultless tokenLimit 0 text 0 (cells p)
+  reads-faultless = read-faultless tokenLimit (cells p) text (with-room (cells p) (omega arith)) .0
+
+  pub reads-known : Accepted tokenLimit (cells p) text p
+  reads-known = read-accepted tokenLimit (cells p) text (with-room (cells p) (omega arith))
+
+  -- so many cells lent, within their limit, accept it; and 4,096 do not, where it has more
+  pub reads-accepted : (n : ℕ) → cells p ≤ n → n ≤ cellLimit → accept standard n text ≡ PLAN p
+  reads-accepted n room lent = accepts standard n text (record { short = reads .short; lent = lent; reads = with-room n room })
+
+  pub reads-over : cellLimit < cells p → accept standard cellLimit text ≡ REFUSED (Overfull (place (getD (labels p) cellLimit 0)))
+  unfolding accept read fit
+  reads-over over =
+      rw (le-ltb textLimit (length text) (reads .short)) (ap (fit cellLimit) (reads .reads) ∙ rw (lt-leb (cells p) cellLimit over))
+
+-- an accepted text reads as the plan
+pub accepted-reads : (n : ℕ) {text : List ℕ} {p : Plan ℕ} → accept standard n text ≡ PLAN p → ReadsAs text p
+accepted-reads n {text} e =
+    let t = accepted-text standard n text e in record { short = t .short; reads = read-faultless tokenLimit n text (t .reads) .2 }
+
+-- a linked plan has allowed tokens only
+pub linked-allowed : {list text : List ℕ} {ws : List Word} {p : Plan ℕ} → HasWords list ws → ReadsAs text p → Allowed tokenLimit (linked-by ws p)
+linked-allowed {ws = ws} {p} has reads =
+    allowed-link (stands-for tokenLimit ws) tokenLimit p (reads-known reads .fine) (stands-allowed standard ws (words-right has))
+
+-- and its printed text, where it is not too big, reads back
+pub linked-back : {list text : List ℕ} {ws : List Word} {p : Plan ℕ} → HasWords list ws → ReadsAs text p → (n : ℕ)
+    → cells (linked-by ws p) ≤ n → n ≤ cellLimit → accept standard n (print (linked-by ws p)) ≡ PLAN (placed 0 (linked-by ws p))
+linked-back {ws = ws} {p} has reads n room lent = print-accepted standard standard-roomy n lent (linked-by ws p) (linked-allowed has reads) room
+
+-- by no words a plan stays as it is
+pub linked-by-none : (p : Plan ℕ) → linked-by [] p ≡ p
+unfolding stands-for
+linked-by-none p = link-unlisted (stands-for tokenLimit []) p (λ t h. refl)
+
+module _ {L M : Type 0} (f : L → M) where
+  -- other labels hold the same tokens
+  pub holds-relabel : (t : List ℕ) (p : Plan L) → holds t (relabel f p) ≡ holds t p
+  unfolding holds relabel
+  holds-relabel t end = refl
+  holds-relabel t (operator l o p) = holds-relabel t p
+  holds-relabel t (token l u p) = ap (same t u ||_) (holds-relabel t p)
+  holds-relabel t (block l b p) = ap₂ _||_ (holds-relabel t b) (holds-relabel t p)
+
+  relabel-in-place : (s : Option (Plan L)) (l : L) (t : List ℕ) (p : Plan L)
+      → relabel f (in-place s l t p) ≡ in-place (under (relabel f) s) (f l) t (relabel f p)
+  unfolding relabel in-place under
+  relabel-in-place none l t p = refl
+  relabel-in-place (some q) l t p = relabel-then f q p
+
+  -- and are linked to the same items
+  pub relabel-link : (stands : List ℕ → Option (Plan L)) (p : Plan L)
+      → relabel f (link stands p) ≡ link (λ t. under (relabel f) (stands t)) (relabel f p)
+  unfolding link relabel
+  relabel-link stands end = refl
+  relabel-link stands (operator l o p) = ap (operator (f l) o) (relabel-link stands p)
+  relabel-link stands (token l t p) =
+      relabel-in-place (stands t) l t (link stands p) ∙ ap (in-place (under (relabel f) (stands t)) (f l) t) (relabel-link stands p)
+  relabel-link stands (block l b p) = ap₂ (block (f l)) (relabel-link stands b) (relabel-link stands p)
+
+-- so plans that differ in their places only are linked to plans that differ in their places only
+pub linked-same : (ws : List Word) (p q : Plan ℕ) → bare p ≡ bare q → bare (linked-by ws p) ≡ bare (linked-by ws q)
+linked-same ws p q e =
+    relabel-link (λ l. tt {0}) (stands-for tokenLimit ws) p ∙ ap (link (λ t. under (relabel (λ l. tt {0})) (stands-for tokenLimit ws t))) e
+    ∙ sym (relabel-link (λ l. tt {0}) (stands-for tokenLimit ws) q)
+
+-- which have as many cells and the same text
+pub bare-cells : (p q : Plan ℕ) → bare p ≡ bare q → cells p ≡ cells q
+bare-cells p q e = sym (cells-relabel (λ l. tt {0}) p) ∙ ap cells e ∙ cells-relabel (λ l. tt {0}) q
+
+pub bare-print : (p q : Plan ℕ) → bare p ≡ bare q → print p ≡ print q
+bare-print p q e = sym (print-relabel (λ l. tt {0}) p) ∙ ap print e ∙ print-relabel (λ l. tt {0}) q
