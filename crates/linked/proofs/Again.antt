@@ -27,7 +27,7 @@ use Rattle.linking.specs.Calls.{Links}
 use Rattle.demands.specs.Words.{READ}
 use Rattle.linked.specs.Lists.{HasWords}
 use Rattle.linked.specs.Table.{Faulty, LinkedAs, row-11, rows-13-to-16}
-use Rattle.linked.specs.Words.{IsLinked, ReadsAs, linked-by, no-words, placeless, refusal, saved}
+use Rattle.linked.specs.Words.{IsLinked, HasPlan, linked-by, no-words, placeless, refusal, saved}
 use Rattle.linked.proofs.Cases.{
   LinkCase,
   bad-list,
@@ -94,11 +94,11 @@ pub link-twice : {list text out out₂ : List ℕ} {r s : LinkAnswer} {a b : Lis
 link-twice {list} {text} {out} {out₂} {r} {s} {a} {b} call linked again room =
     let (ws, p, has, was-read) = linked-by-words call linked in compare ws p has was-read (linked-as call has was-read linked)
   where
-    compare : (ws : List Word) (p : Plan ℕ) → HasWords list ws → ReadsAs text p → LinkedAs out ws p (link-numbers r) a
+    compare : (ws : List Word) (p : Plan ℕ) → HasWords list ws → HasPlan text p → LinkedAs out ws p (link-numbers r) a
         → (link-numbers s ≡ link-numbers r) × (saved s b ≡ saved r a)
     compare ws p has was-read x =
         let q = linked-by ws p in
-        let back : ReadsAs (saved r a) (placed 0 q) =
+        let back : HasPlan (saved r a) (placed 0 q) =
         accepted-reads cellLimit (ap (accept standard cellLimit) (x .first) ∙ linked-back has was-read cellLimit (x .few) (omega arith)) in
         let same : bare (linked-by ws (placed 0 q)) ≡ bare q =
         linked-same ws (placed 0 q) q (bare-placed 0 q) ∙ ap bare (link-again standard ws (words-right has) p) in

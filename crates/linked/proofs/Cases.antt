@@ -28,7 +28,7 @@ use Rattle.words.specs.declared.LinkRefusal.the-variants.{BadWords, Text, Overf
 use Rattle.linking.specs.Calls.{Links}
 use Rattle.linked.specs.Lists.{BadList, HasWords}
 use Rattle.linked.specs.Table.{Faulty, LinkedAs, row-11, rows-13-to-16}
-use Rattle.linked.specs.Words.{IsLinked, ReadsAs, linked-by}
+use Rattle.linked.specs.Words.{IsLinked, HasPlan, linked-by}
 use Rattle.linked.proofs.Lists.{bad-exactly-when, not-both, one-stock, right-exactly-when}
 use Rattle.linked.proofs.Numbers.{refusal-over}
 
@@ -60,7 +60,7 @@ row-stops n text {f} row = go (read-from tokenLimit 0 0 outermost end text) refl
 
 data TextCase (text : List ℕ) : Reading → Type 0 where
   has-fault : {f : TextFault} → Faulty text f → TextCase text (REFUSED (BadText f))
-  has-plan : {p : Plan ℕ} → ReadsAs text p → TextCase text (PLAN p)
+  has-plan : {p : Plan ℕ} → HasPlan text p → TextCase text (PLAN p)
 
 text-case : (text : List ℕ) → TextCase text (read-text standard text)
 unfolding read-text
@@ -79,7 +79,7 @@ unfolding read-text
 fault-found {text} (row-11 long) = rw (lt-ltb textLimit (length text) long)
 fault-found {text} (rows-13-to-16 n short row) = rw (le-ltb textLimit (length text) short) (row-stops n text row)
 
-plan-found : {text : List ℕ} {p : Plan ℕ} → ReadsAs text p → read-text standard text ≡ PLAN p
+plan-found : {text : List ℕ} {p : Plan ℕ} → HasPlan text p → read-text standard text ≡ PLAN p
 unfolding read-text
 plan-found {text} reads = rw (le-ltb textLimit (length text) (reads .short)) (reads .reads)
 
@@ -87,21 +87,21 @@ plan-found {text} reads = rw (le-ltb textLimit (length text) (reads .short)) (re
 pub one-fault : {text : List ℕ} {f g : TextFault} → Faulty text f → Faulty text g → f ≡ g
 one-fault x y = let e : REFUSED (BadText _) ≡ REFUSED (BadText _) = sym (fault-found x) ∙ fault-found y in cc
 
-pub one-plan : {text : List ℕ} {p q : Plan ℕ} → ReadsAs text p → ReadsAs text q → p ≡ q
+pub one-plan : {text : List ℕ} {p q : Plan ℕ} → HasPlan text p → HasPlan text q → p ≡ q
 one-plan x y = plan-injective (sym (x .reads) ∙ y .reads)
 
-pub fault-or-plan : {A : Type 0} {text : List ℕ} {f : TextFault} {p : Plan ℕ} → Faulty text f → ReadsAs text p → A
+pub fault-or-plan : {A : Type 0} {text : List ℕ} {f : TextFault} {p : Plan ℕ} → Faulty text f → HasPlan text p → A
 fault-or-plan x y = plan-is-no-refusal (sym (plan-found y) ∙ fault-found x)
 
 -- The cases of a call.
 pub data LinkCase (list text out : List ℕ) : LinkAnswer → List ℕ → Type 0 where
   bad-list : {rank : ℕ} → BadList list rank → LinkCase list text out (Refused (BadWords rank)) out
   bad-text : {ws : List Word} {f : TextFault} → HasWords list ws → Faulty text f → LinkCase list text out (Refused (Text f)) out
-  over-full : {ws : List Word} {p : Plan ℕ} → HasWords list ws → ReadsAs text p → cellLimit < cells (linked-by ws p)
+  over-full : {ws : List Word} {p : Plan ℕ} → HasWords list ws → HasPlan text p → cellLimit < cells (linked-by ws p)
       → LinkCase list text out (Refused Overfull) out
-  out-short : {ws : List Word} {p : Plan ℕ} → HasWords list ws → ReadsAs text p → cells (linked-by ws p) ≤ cellLimit
+  out-short : {ws : List Word} {p : Plan ℕ} → HasWords list ws → HasPlan text p → cells (linked-by ws p) ≤ cellLimit
       → length out < length (print (linked-by ws p)) → LinkCase list text out (Refused (OutShort (length (print (linked-by ws p))))) out
-  is-linked : {ws : List Word} {p : Plan ℕ} → HasWords list ws → ReadsAs text p → cells (linked-by ws p) ≤ cellLimit
+  is-linked : {ws : List Word} {p : Plan ℕ} → HasWords list ws → HasPlan text p → cells (linked-by ws p) ≤ cellLimit
       → length (print (linked-by ws p)) ≤ length out
       → LinkCase list text out (Linked (cells (linked-by ws p)) (length (print (linked-by ws p))))
       (print (linked-by ws p) ++ drop (length (print (linked-by ws p))) out)
@@ -110,14 +110,14 @@ link-cases : (list text out : List ℕ) → LinkCase list text out (link-text st
 unfolding link-text links link-by link-read within write-linked
 link-cases list text out = by-stock (stock standard list) refl
   where
-    by-length : {ws : List Word} {p : Plan ℕ} → HasWords list ws → ReadsAs text p → cells (linked-by ws p) ≤ cellLimit
+    by-length : {ws : List Word} {p : Plan ℕ} → HasWords list ws → HasPlan text p → cells (linked-by ws p) ≤ cellLimit
         → LinkCase list text out (write-linked (GIVES (linked-by ws p)) out .answer) (write-linked (GIVES (linked-by ws p)) out .output)
     by-length {ws} {p} has reads few =
         let size = length (print (linked-by ws p)) in
         cond-cases (λ (w : LinkWritten). LinkCase list text out (w .answer) (w .output)) (leb size (length out))
         (λ t. is-linked has reads few (leb-true size (length out) t)) (λ t. out-short has reads few (leb-false size (length out) t))
 
-    by-cells : {ws : List Word} {p : Plan ℕ} → HasWords list ws → ReadsAs text p
+    by-cells : {ws : List Word} {p : Plan ℕ} → HasWords list ws → HasPlan text p
         → LinkCase list text out (write-linked (within standard (linked-by ws p)) out .answer) (write-linked (within standard (linked-by ws p)) out .output)
     by-cells {ws} {p} has reads =
         let many = cells (linked-by ws p) in
@@ -138,26 +138,26 @@ pub link-case : {list text out : List ℕ} {r : LinkAnswer} {out′ : List ℕ} 
 link-case {list} {text} {out} call = rw (call .answer, call .output) (link-cases list text out)
 
 -- where the list is right and the text reads, the rest is settled by the linked plan
-pub by-linked-plan : {list text : List ℕ} {ws : List Word} {p : Plan ℕ} → HasWords list ws → ReadsAs text p
+pub by-linked-plan : {list text : List ℕ} {ws : List Word} {p : Plan ℕ} → HasWords list ws → HasPlan text p
     → (out : List ℕ) → link-text standard list text out ≡ write-linked (within standard (linked-by ws p)) out
 unfolding link-text links link-by link-read
 by-linked-plan {list} {ws = ws} has reads out = rw (right-exactly-when list ws .0 has, plan-found reads)
 
 module _ {list text out : List ℕ} {r : LinkAnswer} {out′ : List ℕ} (call : Links list text out r out′) where
   -- a call that linked had a right list and a text that reads,
-  pub linked-by-words : IsLinked r → (ws : List Word) × (p : Plan ℕ) × HasWords list ws × ReadsAs text p
+  pub linked-by-words : IsLinked r → (ws : List Word) × (p : Plan ℕ) × HasWords list ws × HasPlan text p
   linked-by-words h = go (link-case call) h
     where
       go : {r : LinkAnswer} {out′ : List ℕ} → LinkCase list text out r out′ → IsLinked r
-          → (ws : List Word) × (p : Plan ℕ) × HasWords list ws × ReadsAs text p
+          → (ws : List Word) × (p : Plan ℕ) × HasWords list ws × HasPlan text p
       go (bad-list bad) h = absurd (omega arith)
       go (bad-text {f = f} has bad) h = absurd (omega (arith, refusal-over (Text f)))
       go (over-full has reads over) h = absurd (omega arith)
       go (out-short has reads few short) h = absurd (omega arith)
       go (is-linked has reads few fits) h = (_, _, has, reads)
 
-  module _ {ws : List Word} {p : Plan ℕ} (has : HasWords list ws) (reads : ReadsAs text p) where
-    same : {vs : List Word} {q : Plan ℕ} → HasWords list vs → ReadsAs text q → linked-by vs q ≡ linked-by ws p
+  module _ {ws : List Word} {p : Plan ℕ} (has : HasWords list ws) (reads : HasPlan text p) where
+    same : {vs : List Word} {q : Plan ℕ} → HasWords list vs → HasPlan text q → linked-by vs q ≡ linked-by ws p
     same g h = ap₂ linked-by (one-stock g has) (one-plan h reads)
 
     -- and answered and left what the table says;

@@ -14,7 +14,7 @@ use Rattle.words.proofs.Cells.{cells-link}
 use Rattle.words.proofs.Listing.{stands-none}
 use Rattle.linking.specs.Calls.{Links}
 use Rattle.linked.specs.Lists.{HasWords}
-use Rattle.linked.specs.Words.{IsLinked, ReadsAs, linked-by}
+use Rattle.linked.specs.Words.{IsLinked, HasPlan, linked-by}
 use Rattle.linked.proofs.Cases.{linked-as}
 use Rattle.linked.proofs.Order.{word-stands-for}
 
@@ -39,5 +39,5 @@ unlisted-counts-for ws t e = ap cells-put (stands-none tokenLimit ws t .1 e)
 
 -- these are the cells that a call tells
 pub told-cells : {list text out : List ℕ} {r : LinkAnswer} {out′ : List ℕ} → Links list text out r out′ → IsLinked r
-    → {ws : List Word} {p : Plan ℕ} → HasWords list ws → ReadsAs text p → link-numbers r .cells ≡ weighed (counts-for ws) p
+    → {ws : List Word} {p : Plan ℕ} → HasWords list ws → HasPlan text p → link-numbers r .cells ≡ weighed (counts-for ws) p
 told-cells call linked {ws} {p} has reads = ap (λ (v : Numbers). v .cells) (linked-as call has reads linked .numbers) ∙ linked-cells ws p

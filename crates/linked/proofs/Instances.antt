@@ -27,7 +27,7 @@ use Rattle.linking.specs.Calls.{Links}
 use Rattle.turnip.specs.Linking.{LinkAnswers}
 use Rattle.linked.specs.Lists.{BadList, FaultyWord, HasWords, bad-name, bad-text, earlier, named-already, newest, no-name, used-already}
 use Rattle.linked.specs.Table.{AsAsked, Faulty, LinkRefuses, LinkedAs, row-11}
-use Rattle.linked.specs.Words.{IsLinked, ReadsAs, no-words, refusal}
+use Rattle.linked.specs.Words.{IsLinked, HasPlan, no-words, refusal}
 use Rattle.linked.proofs.Cases.{linked-as, linked-by-words}
 use Rattle.linked.proofs.OneAnswer.{link-as-asked}
 use Rattle.linked.proofs.Refused.{badwords-exactly-when, link-refused}
@@ -110,8 +110,8 @@ faulty-words = (
   used-already (newest refl),
 )
 
--- `HasWords`, with `WholeWords` in it, `ReadsAs`, and what a call that links answers and leaves
-pub a-linked-call : IsLinked (Linked 9 22) × ((ws : List Word) × (p : Plan ℕ) × HasWords list ws × ReadsAs text p
+-- `HasWords`, with `WholeWords` in it, `HasPlan`, and what a call that links answers and leaves
+pub a-linked-call : IsLinked (Linked 9 22) × ((ws : List Word) × (p : Plan ℕ) × HasWords list ws × HasPlan text p
     × LinkedAs out ws p (link-numbers (Linked 9 22)) (bytes "[{y}][{y}][[{y}]]{%q}a" ++ 7 ∷ 7 ∷ []))
 a-linked-call =
     let (ws, p, has, reads) = linked-by-words (calls .0) refl in (refl, (ws, p, has, reads, linked-as (calls .0) has reads refl))

@@ -19,7 +19,7 @@ use Rattle.words.proofs.Linked.{link-then}
 use Rattle.linking.specs.Calls.{Links}
 use Rattle.linked.specs.Lists.{HasWords}
 use Rattle.linked.specs.Table.{LinkedAs}
-use Rattle.linked.specs.Words.{IsLinked, ReadsAs, linked-by, saved}
+use Rattle.linked.specs.Words.{IsLinked, HasPlan, linked-by, saved}
 use Rattle.linked.proofs.Cases.{call-linked, linked-as, linked-by-words}
 use Rattle.linked.proofs.Meanings.{bare-cells, bare-print, linked-same, reads-faultless, reads-known}
 
@@ -30,10 +30,10 @@ linked-then ws p q = link-then (stands-for tokenLimit ws) p q
 -- two texts that read, one behind the other and not too long together, read as the one's plan, then the other's, places aside
 record ReadsThen (a b : List ℕ) (p q : Plan ℕ) : Type 0 where
   plan : Plan ℕ
-  reads : ReadsAs (a ++ b) plan
+  reads : HasPlan (a ++ b) plan
   same : bare plan ≡ bare (p then q)
 
-reads-then : {a b : List ℕ} {p q : Plan ℕ} → ReadsAs a p → ReadsAs b q → length (a ++ b) ≤ textLimit → ReadsThen a b p q
+reads-then : {a b : List ℕ} {p q : Plan ℕ} → HasPlan a p → HasPlan b q → length (a ++ b) ≤ textLimit → ReadsThen a b p q
 reads-then {a} {b} {p} {q} x y short =
     let whole = text-read (faultless-then (reads-faultless x) (reads-faultless y)) in
     let printed : print (whole .plan) ≡ print (p then q) =
@@ -62,10 +62,10 @@ then-print {p = p} {q} ws x =
 -- of calls that linked two texts by the same list, and a call for the two texts one behind the other
 module _ {list a b out₁ out₂ out : List ℕ} {r₁ r₂ r : LinkAnswer} {left₁ left₂ left : List ℕ} (one : Links list a out₁ r₁ left₁) (linked₁ : IsLinked r₁)
     (other : Links list b out₂ r₂ left₂) (linked₂ : IsLinked r₂) (both : Links list (a ++ b) out r left) where
-  abbrev read₁ : (ws : List Word) × (p : Plan ℕ) × HasWords list ws × ReadsAs a p
+  abbrev read₁ : (ws : List Word) × (p : Plan ℕ) × HasWords list ws × HasPlan a p
   read₁ = linked-by-words one linked₁
 
-  abbrev read₂ : (ws : List Word) × (q : Plan ℕ) × HasWords list ws × ReadsAs b q
+  abbrev read₂ : (ws : List Word) × (q : Plan ℕ) × HasWords list ws × HasPlan b q
   read₂ = linked-by-words other linked₂
 
   abbrev ws : List Word

@@ -177,32 +177,32 @@ past-words {bytes} more (one-more {older} {rest} {later} {w} before front good) 
     ∙ past-words (suc more) before ∙ next-right more older rest later w front (faultless-right older w good)
 
 -- what the definition finds in a list, and what the list then is
-data Verdict (list : List ℕ) : Stock → Type 0 where
-  at-fault : {rank : ℕ} → BadList list rank → Verdict list (FAULT rank)
-  all-right : {ws : List Word} → HasWords list ws → Verdict list (WORDS ws)
+data ListVerdict (list : List ℕ) : Stock → Type 0 where
+  at-fault : {rank : ℕ} → BadList list rank → ListVerdict list (FAULT rank)
+  all-right : {ws : List Word} → HasWords list ws → ListVerdict list (WORDS ws)
 
 module _ (list : List ℕ) {n : ℕ} {bytes : List ℕ} (count : number list ≡ FRONT n bytes) (few : n ≤ wordLimit) where
   -- a list that goes on: its next word is missing, wrong or right
   word-verdict : (more : ℕ) (older : List Word) (bs : List ℕ) → WholeWords bytes older bs → n ≡ length older + suc more
-      → ((w : Word) (later : List ℕ) → WholeWords bytes (w ∷ older) later → Verdict list (stocked standard more (w ∷ older) later))
-      → Verdict list (stocked standard (suc more) older bs)
+      → ((w : Word) (later : List ℕ) → WholeWords bytes (w ∷ older) later → ListVerdict list (stocked standard more (w ∷ older) later))
+      → ListVerdict list (stocked standard (suc more) older bs)
   word-verdict more older bs whole many go-on = by-word (word bs) refl
     where
       by-test : (w : Word) (later : List ℕ) → word bs ≡ FRONT w later → (t : Bool) → right standard older w ≡ t
-          → Verdict list (stocked standard (suc more) older bs)
+          → ListVerdict list (stocked standard (suc more) older bs)
       by-test w later front true good =
-          subst (Verdict list) (sym (next-right more older bs later w front good))
+          subst (ListVerdict list) (sym (next-right more older bs later w front good))
           (go-on w later (one-more whole front (right-faultless older w good)))
       by-test w later front false bad =
-          subst (Verdict list) (sym (next-wrong more older bs later w front bad))
+          subst (ListVerdict list) (sym (next-wrong more older bs later w front bad))
           (at-fault (word-faulty count few whole (omega arith) front (wrong-faulty older w bad)))
 
-      by-word : (x : AtFront Word) → word bs ≡ x → Verdict list (stocked standard (suc more) older bs)
-      by-word CUT cut = subst (Verdict list) (sym (next-cut more older bs cut)) (at-fault (word-cut count few whole (omega arith) cut))
+      by-word : (x : AtFront Word) → word bs ≡ x → ListVerdict list (stocked standard (suc more) older bs)
+      by-word CUT cut = subst (ListVerdict list) (sym (next-cut more older bs cut)) (at-fault (word-cut count few whole (omega arith) cut))
       by-word (FRONT w later) front = by-test w later front (right standard older w) refl
 
   words-verdict : (more : ℕ) (older : List Word) (bs : List ℕ) → WholeWords bytes older bs → n ≡ length older + more
-      → Verdict list (stocked standard more older bs)
+      → ListVerdict list (stocked standard more older bs)
   unfolding stocked
   words-verdict zero older [] whole many =
       let own : n ≡ length older = omega arith in
@@ -225,18 +225,18 @@ stock-over : (list : List ℕ) {n : ℕ} {bytes : List ℕ} → number list ≡ 
 unfolding stock as-counted
 stock-over list {n} count over = rw (count, lt-leb n wordLimit over)
 
-verdict : (list : List ℕ) → Verdict list (stock standard list)
+verdict : (list : List ℕ) → ListVerdict list (stock standard list)
 verdict list = by-count (number list) refl
   where
-    by-test : (n : ℕ) (bytes : List ℕ) → number list ≡ FRONT n bytes → (t : Bool) → leb n wordLimit ≡ t → Verdict list (stock standard list)
+    by-test : (n : ℕ) (bytes : List ℕ) → number list ≡ FRONT n bytes → (t : Bool) → leb n wordLimit ≡ t → ListVerdict list (stock standard list)
     by-test n bytes count true t =
         let few = leb-true n wordLimit t in
-        subst (Verdict list) (sym (stock-counted list count few)) (words-verdict list count few n [] bytes none-yet (omega arith))
+        subst (ListVerdict list) (sym (stock-counted list count few)) (words-verdict list count few n [] bytes none-yet (omega arith))
     by-test n bytes count false t =
-        let over = leb-false n wordLimit t in subst (Verdict list) (sym (stock-over list count over)) (at-fault (count-over count over))
+        let over = leb-false n wordLimit t in subst (ListVerdict list) (sym (stock-over list count over)) (at-fault (count-over count over))
 
-    by-count : (x : AtFront ℕ) → number list ≡ x → Verdict list (stock standard list)
-    by-count CUT cut = subst (Verdict list) (sym (stock-cut list cut)) (at-fault (count-cut cut))
+    by-count : (x : AtFront ℕ) → number list ≡ x → ListVerdict list (stock standard list)
+    by-count CUT cut = subst (ListVerdict list) (sym (stock-cut list cut)) (at-fault (count-cut cut))
     by-count (FRONT n bytes) count = by-test n bytes count (leb n wordLimit) refl
 
 -- the definition finds that rank at fault
@@ -270,14 +270,14 @@ words-found {list} {ws} has =
 pub bad-exactly-when : (list : List ℕ) (rank : ℕ) → BadList list rank ↔ (stock standard list ≡ FAULT rank)
 bad-exactly-when list rank = (bad-found, λ e. go (verdict list) e)
   where
-    go : {x : Stock} → Verdict list x → x ≡ FAULT rank → BadList list rank
+    go : {x : Stock} → ListVerdict list x → x ≡ FAULT rank → BadList list rank
     go (at-fault {rank = r} bad) e = let same : r ≡ rank = cc in subst (BadList list) same bad
     go (all-right has) e = never cc
 
 pub right-exactly-when : (list : List ℕ) (ws : List Word) → HasWords list ws ↔ (stock standard list ≡ WORDS ws)
 right-exactly-when list ws = (words-found, λ e. go (verdict list) e)
   where
-    go : {x : Stock} → Verdict list x → x ≡ WORDS ws → HasWords list ws
+    go : {x : Stock} → ListVerdict list x → x ≡ WORDS ws → HasWords list ws
     go (at-fault bad) e = never cc
     go (all-right {ws = vs} has) e = let same : vs ≡ ws = cc in subst (HasWords list) same has
 

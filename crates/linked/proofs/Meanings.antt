@@ -26,10 +26,10 @@ use Rattle.words.specs.Linking.{Word, holds, in-place, link, stands-for}
 use Rattle.words.proofs.Linked.{allowed-link, link-unlisted}
 use Rattle.words.proofs.Listing.{stands-allowed}
 use Rattle.linked.specs.Lists.{HasWords}
-use Rattle.linked.specs.Words.{ReadsAs, linked-by}
+use Rattle.linked.specs.Words.{HasPlan, linked-by}
 use Rattle.linked.proofs.Lists.{words-right}
 
-module _ {text : List ℕ} {p : Plan ℕ} (reads : ReadsAs text p) where
+module _ {text : List ℕ} {p : Plan ℕ} (reads : HasPlan text p) where
   -- with its own cells lent, or more, the text reads as its plan
   with-room : (n : ℕ) → cells p ≤ n → read tokenLimit n text ≡ PLAN p
   unfolding read fit
@@ -51,17 +51,17 @@ module _ {text : List ℕ} {p : Plan ℕ} (reads : ReadsAs text p) where
       rw (le-ltb textLimit (length text) (reads .short)) (ap (fit cellLimit) (reads .reads) ∙ rw (lt-leb (cells p) cellLimit over))
 
 -- an accepted text reads as the plan
-pub accepted-reads : (n : ℕ) {text : List ℕ} {p : Plan ℕ} → accept standard n text ≡ PLAN p → ReadsAs text p
+pub accepted-reads : (n : ℕ) {text : List ℕ} {p : Plan ℕ} → accept standard n text ≡ PLAN p → HasPlan text p
 accepted-reads n {text} e =
     let t = accepted-text standard n text e in record { short = t .short; reads = read-faultless tokenLimit n text (t .reads) .2 }
 
 -- a linked plan has allowed tokens only
-pub linked-allowed : {list text : List ℕ} {ws : List Word} {p : Plan ℕ} → HasWords list ws → ReadsAs text p → Allowed tokenLimit (linked-by ws p)
+pub linked-allowed : {list text : List ℕ} {ws : List Word} {p : Plan ℕ} → HasWords list ws → HasPlan text p → Allowed tokenLimit (linked-by ws p)
 linked-allowed {ws = ws} {p} has reads =
     allowed-link (stands-for tokenLimit ws) tokenLimit p (reads-known reads .fine) (stands-allowed standard ws (words-right has))
 
 -- and its printed text, where it is not too big, reads back
-pub linked-back : {list text : List ℕ} {ws : List Word} {p : Plan ℕ} → HasWords list ws → ReadsAs text p → (n : ℕ)
+pub linked-back : {list text : List ℕ} {ws : List Word} {p : Plan ℕ} → HasWords list ws → HasPlan text p → (n : ℕ)
     → cells (linked-by ws p) ≤ n → n ≤ cellLimit → accept standard n (print (linked-by ws p)) ≡ PLAN (placed 0 (linked-by ws p))
 linked-back {ws = ws} {p} has reads n room lent = print-accepted standard standard-roomy n lent (linked-by ws p) (linked-allowed has reads) room
 

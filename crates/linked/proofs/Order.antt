@@ -25,7 +25,7 @@ use Rattle.words.specs.declared.LinkAnswer.{LinkAnswer}
 use Rattle.words.proofs.Listing.{Right, RightWord, acceptable-plan, right-word, stands-word}
 use Rattle.linking.specs.Calls.{Links}
 use Rattle.linked.specs.Lists.{HasWords}
-use Rattle.linked.specs.Words.{ReadsAs, linked-by}
+use Rattle.linked.specs.Words.{HasPlan, linked-by}
 use Rattle.linked.proofs.Cases.{by-linked-plan}
 use Rattle.linked.proofs.Lists.{words-right}
 use Rattle.linked.proofs.Meanings.{accepted-reads}
@@ -54,7 +54,7 @@ module _ {list : List ℕ} (newer older : List Word) (w : Word) (has : HasWords 
       (leb-true 1 (length (w .name)) named, omega (arith, allowed-parts tokenLimit (stock-token w) may))
 
   -- a listed word's text reads
-  pub word-reads : ReadsAs (w .text) (plan-of tokenLimit (w .text))
+  pub word-reads : HasPlan (w .text) (plan-of tokenLimit (w .text))
   word-reads = let text = acceptable-plan standard (w .text) (fine .reads) in record { short = text .short; reads = rw (text .plan-is) (text .reads) }
 
   -- "A word's linked plan is its text's plan linked by the words before it;"
@@ -66,7 +66,7 @@ module _ {list : List ℕ} (newer older : List Word) (w : Word) (has : HasWords 
   later-words-change-nothing = word-stands-for ∙ sym (stands-word standard [] older w up-to-it)
 
   -- the word's token as a text
-  token-reads : ReadsAs (open-brace ∷ (stock-token w ++ close-brace ∷ [])) (token 0 (stock-token w) end)
+  token-reads : HasPlan (open-brace ∷ (stock-token w ++ close-brace ∷ [])) (token 0 (stock-token w) end)
   unfolding print placed cells
   token-reads =
       accepted-reads cellLimit

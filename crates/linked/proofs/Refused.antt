@@ -20,7 +20,7 @@ use Rattle.words.specs.declared.LinkRefusal.the-variants.{BadWords, Text, Overf
 use Rattle.linking.specs.Calls.{Links}
 use Rattle.linked.specs.Lists.{BadList, HasWords}
 use Rattle.linked.specs.Table.{Faulty, LinkRefuses, row-17, row-18, row-26, rows-11-to-16}
-use Rattle.linked.specs.Words.{BADWORDS, IsLinked, ReadsAs, linked-by, refusal}
+use Rattle.linked.specs.Words.{BADWORDS, IsLinked, HasPlan, linked-by, refusal}
 use Rattle.linked.proofs.Cases.{
   LinkCase,
   bad-list,
@@ -53,7 +53,7 @@ linked-or-refused {list} {text} {out} call = go (link-case call)
     go (is-linked has reads few fits) = inl refl
 
 -- what the words and the plan say of the linked plan
-module _ {list text : List ℕ} {vs ws : List Word} {p q : Plan ℕ} (g : HasWords list vs) (h : HasWords list ws) (x : ReadsAs text p) (y : ReadsAs text q) where
+module _ {list text : List ℕ} {vs ws : List Word} {p q : Plan ℕ} (g : HasWords list vs) (h : HasWords list ws) (x : HasPlan text p) (y : HasPlan text q) where
   same-cells : cells (linked-by vs p) ≡ cells (linked-by ws q)
   same-cells = ap₂ (λ v r. cells (linked-by v r)) (one-stock g h) (one-plan x y)
 
@@ -135,7 +135,7 @@ module _ {list text out : List ℕ} {r : LinkAnswer} {out′ : List ℕ} (call :
       go (row-18 h y few short) e = never cc
 
   -- of a right list and a text that reads: 17, place 0, exactly when the linked plan has more than 4,096 cells,
-  pub overfull-exactly-when : {ws : List Word} {p : Plan ℕ} → HasWords list ws → ReadsAs text p
+  pub overfull-exactly-when : {ws : List Word} {p : Plan ℕ} → HasWords list ws → HasPlan text p
       → (cellLimit < cells (linked-by ws p)) ↔ (link-numbers r ≡ refusal Overfull)
   overfull-exactly-when {ws} {p} has reads = (λ over. link-refused Overfull .0 (row-17 has reads over), λ h. go (link-refused Overfull .1 h) refl)
     where
@@ -146,7 +146,7 @@ module _ {list text out : List ℕ} {r : LinkAnswer} {out′ : List ℕ} (call :
       go (row-18 h y few short) e = never cc
 
   -- 18, with the bytes needed, exactly when the linked plan fits its cells and its text not the output,
-  pub outshort-exactly-when : {ws : List Word} {p : Plan ℕ} → HasWords list ws → ReadsAs text p
+  pub outshort-exactly-when : {ws : List Word} {p : Plan ℕ} → HasWords list ws → HasPlan text p
       → ((cells (linked-by ws p) ≤ cellLimit) × (length out < length (print (linked-by ws p))))
       ↔ (link-numbers r ≡ refusal (OutShort (length (print (linked-by ws p)))))
   outshort-exactly-when {ws} {p} has reads =

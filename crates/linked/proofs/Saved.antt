@@ -33,7 +33,7 @@ use Rattle.demands.proofs.MoreNeverChanges.{more-gives-the-same, slots-end-as-t
 use Rattle.linking.specs.Calls.{Links}
 use Rattle.linked.specs.Lists.{HasWords}
 use Rattle.linked.specs.Table.{LinkedAs}
-use Rattle.linked.specs.Words.{IsLinked, ReadsAs, linked-by, saved}
+use Rattle.linked.specs.Words.{IsLinked, HasPlan, linked-by, saved}
 use Rattle.linked.proofs.Cases.{linked-as}
 use Rattle.linked.proofs.Lists.{words-right}
 use Rattle.linked.proofs.Meanings.{holds-relabel, linked-back}
@@ -44,7 +44,7 @@ unfolding check reads as-read answer-of
 check-of text e = rw e
 
 module _ {list text out : List ℕ} {r : LinkAnswer} {out′ : List ℕ} (call : Links list text out r out′) (linked : IsLinked r)
-    {ws : List Word} {p : Plan ℕ} (has : HasWords list ws) (text-reads : ReadsAs text p) where
+    {ws : List Word} {p : Plan ℕ} (has : HasWords list ws) (text-reads : HasPlan text p) where
   its : LinkedAs out ws p (link-numbers r) out′
   its = linked-as call has text-reads linked
 

@@ -15,7 +15,7 @@ use Rattle.words.specs.declared.LinkRefusal.{LinkRefusal}
 use Rattle.words.specs.declared.LinkRefusal.the-variants.{BadWords, Text, Overfull, OutShort}
 use Rattle.demands.specs.Words.{READ}
 use Rattle.linked.specs.Lists.{BadList, HasWords}
-use Rattle.linked.specs.Words.{ReadsAs, linked-by, refusal}
+use Rattle.linked.specs.Words.{HasPlan, linked-by, refusal}
 
 -- the text's own faults, as they now stand: the rows 13 to 16 do not look at the number of cells, so it may be any
 pub data Faulty (text : List ℕ) : TextFault → Type 0 where
@@ -25,9 +25,9 @@ pub data Faulty (text : List ℕ) : TextFault → Type 0 where
 pub data LinkRefuses (list text out : List ℕ) : LinkRefusal → Type 0 where
   row-26 : {rank : ℕ} → BadList list rank → LinkRefuses list text out (BadWords rank)
   rows-11-to-16 : {ws : List Word} {f : TextFault} → HasWords list ws → Faulty text f → LinkRefuses list text out (Text f)
-  row-17 : {ws : List Word} {p : Plan ℕ} → HasWords list ws → ReadsAs text p → cellLimit < cells (linked-by ws p)
+  row-17 : {ws : List Word} {p : Plan ℕ} → HasWords list ws → HasPlan text p → cellLimit < cells (linked-by ws p)
       → LinkRefuses list text out Overfull
-  row-18 : {ws : List Word} {p : Plan ℕ} → HasWords list ws → ReadsAs text p → cells (linked-by ws p) ≤ cellLimit
+  row-18 : {ws : List Word} {p : Plan ℕ} → HasWords list ws → HasPlan text p → cells (linked-by ws p) ≤ cellLimit
       → length out < length (print (linked-by ws p)) → LinkRefuses list text out (OutShort (length (print (linked-by ws p))))
 
 -- what is answered and left where no row applies: READ, the linked plan's cells and length, its printed text first in the output, and
@@ -43,4 +43,4 @@ pub record LinkedAs (out : List ℕ) (ws : List Word) (p : Plan ℕ) (told : Num
 -- said of the request's own sentences, and not only of the contract
 pub data AsAsked (list text out : List ℕ) (told : Numbers) (out′ : List ℕ) : Type 0 where
   refused : {x : LinkRefusal} → LinkRefuses list text out x → told ≡ refusal x → out′ ≡ out → AsAsked list text out told out′
-  linked : {ws : List Word} {p : Plan ℕ} → HasWords list ws → ReadsAs text p → LinkedAs out ws p told out′ → AsAsked list text out told out′
+  linked : {ws : List Word} {p : Plan ℕ} → HasWords list ws → HasPlan text p → LinkedAs out ws p told out′ → AsAsked list text out told out′

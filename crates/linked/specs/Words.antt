@@ -32,7 +32,7 @@ abbrev pub saved : LinkAnswer → List ℕ → List ℕ
 saved r out = take (link-numbers r .length) out
 
 -- the text is within its limit and reads as the plan p, however many cells that has
-pub record ReadsAs (text : List ℕ) (p : Plan ℕ) : Type 0 where
+pub record HasPlan (text : List ℕ) (p : Plan ℕ) : Type 0 where
   pub short : length text ≤ textLimit
   pub reads : read-from tokenLimit 0 0 outermost end text ≡ PLAN p
 

@@ -29,14 +29,14 @@ use Rattle.words.proofs.Linked.{allowed-link}
 use Rattle.shelf.specs.Shelf.{Readable, Shelved, linked-text, stands-to, word-of, words-to}
 use Rattle.shelf.proofs.Noting.{noted-nothing}
 use Rattle.shelf.proofs.Standing.{shelved-below}
-use Rattle.measuring.specs.Weights.{Weighable, Weighed, weight}
+use Rattle.measuring.specs.Weights.{CanWeigh, WeightsKnown, weight}
 use Rattle.measuring.specs.declared.Weight.{Weight}
-use Rattle.splicing.specs.Splicing.{Placed, Writable}
-use Rattle.vetting.specs.Vetting.{JudgedShelved, judged-told}
-use Rattle.vetting.specs.declared.Judged.{Judged}
-use Rattle.vetting.specs.declared.Judged.the-variants.{Bad, Words}
+use Rattle.splicing.specs.Splicing.{WordsPlaced, Writable}
+use Rattle.vetting.specs.Vetting.{VettedShelved, vetted-told}
+use Rattle.vetting.specs.declared.Vetted.{Vetted}
+use Rattle.vetting.specs.declared.Vetted.the-variants.{Bad, Words}
 use Rattle.linking.specs.Calls.{Links}
-use Rattle.linking.specs.Parts.{LinkWrites, Stocked}
+use Rattle.linking.specs.Parts.{LinkWrites, WordsKnown}
 
 -- a text that reads has allowed tokens, and so has what it links to
 readable-allowed : {text : List ℕ} → Readable text → Allowed tokenLimit (plan-of tokenLimit text)
@@ -59,14 +59,14 @@ stands-allowed list starts (suc n) s t q e = go (same t (stock-token (word-of li
     go false h more = more t q h
 
 -- nothing is remembered yet
-pub weighed-nothing : (list starts : List ℕ) → Weighed list starts (replicate 512 0)
+pub weighed-nothing : (list starts : List ℕ) → WeightsKnown list starts (replicate 512 0)
 weighed-nothing list starts r a b e = noted-nothing 512 r e
 
-placed-nothing : (list starts out : List ℕ) → Placed list starts (replicate 512 0) out 0
+placed-nothing : (list starts out : List ℕ) → WordsPlaced list starts (replicate 512 0) out 0
 placed-nothing list starts out r a b e = noted-nothing 512 r e
 
-module _ {list starts : List ℕ} {count : ℕ} (s : Stocked list starts count) {text : List ℕ} (r : Readable text) where
-  pub weighable : Weighable list starts text count (replicate 512 0)
+module _ {list starts : List ℕ} {count : ℕ} (s : WordsKnown list starts count) {text : List ℕ} (r : Readable text) where
+  pub weighable : CanWeigh list starts text count (replicate 512 0)
   weighable =
       record { shelved = s .shelved; readable = r; known = weighed-nothing list starts; long = omega (arith, s .few, length-replicate {A = ℕ} 512 0) }
 
@@ -109,7 +109,7 @@ module _ {list starts : List ℕ} {count : ℕ} (s : Stocked list starts count) 
           record { answer = rw (gives, test) (ap (λ n. Refused (OutShort n)) length-is); output = rw (gives, test) refl }
 
       module _ (out : List ℕ) (room : w .length ≤ length out) where
-        pub writable : (weights : List ℕ) → Weighed list starts weights → length weights ≡ 512 → Writable list starts text count weights (replicate 512 0) out 0
+        pub writable : (weights : List ℕ) → WeightsKnown list starts weights → length weights ≡ 512 → Writable list starts text count weights (replicate 512 0) out 0
         writable weights known long =
             record {
               ready =
@@ -160,12 +160,12 @@ module _ (list text out : List ℕ) where
   list-right starts count e w = record { answer = rw e (w .answer); output = rw e (w .output) }
 
 -- what the judge said of the list
-module _ (list starts : List ℕ) {j : Judged} where
-  pub judged-bad : {rank : ℕ} → stock standard list ≡ judged-told list starts j → j ≡ Bad rank → stock standard list ≡ FAULT rank
-  judged-bad told e = told ∙ ap (judged-told list starts) e
+module _ (list starts : List ℕ) {j : Vetted} where
+  pub vetted-bad : {rank : ℕ} → stock standard list ≡ vetted-told list starts j → j ≡ Bad rank → stock standard list ≡ FAULT rank
+  vetted-bad told e = told ∙ ap (vetted-told list starts) e
 
-  pub judged-right : {count : ℕ} → stock standard list ≡ judged-told list starts j → j ≡ Words count → stock standard list ≡ WORDS (words-to list starts count)
-  judged-right told e = told ∙ ap (judged-told list starts) e
+  pub vetted-right : {count : ℕ} → stock standard list ≡ vetted-told list starts j → j ≡ Words count → stock standard list ≡ WORDS (words-to list starts count)
+  vetted-right told e = told ∙ ap (vetted-told list starts) e
 
-  pub judged-stocked : {count : ℕ} → JudgedShelved list starts j → j ≡ Words count → Stocked list starts count
-  judged-stocked shelved e = let (s, few) = subst (JudgedShelved list starts) e shelved in record { shelved = s; few = few }
+  pub vetted-stocked : {count : ℕ} → VettedShelved list starts j → j ≡ Words count → WordsKnown list starts count
+  vetted-stocked shelved e = let (s, few) = subst (VettedShelved list starts) e shelved in record { shelved = s; few = few }

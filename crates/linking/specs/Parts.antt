@@ -11,8 +11,8 @@ use Rattle.words.specs.Linking.{plan-of}
 use Rattle.words.specs.Stock.{wordLimit}
 use Rattle.words.specs.declared.LinkAnswer.{LinkAnswer}
 use Rattle.shelf.specs.Shelf.{Readable, Shelved}
-use Rattle.linking.specs.declared.TextRead.{TextRead}
-use Rattle.linking.specs.declared.TextRead.the-variants.{Fine, Fault}
+use Rattle.linking.specs.declared.ReadOver.{ReadOver}
+use Rattle.linking.specs.declared.ReadOver.the-variants.{Fine, Fault}
 
 -- the answer and the output that belong to an outcome
 pub record LinkWrites (o : LinkOutcome) (out : List ℕ) (r : LinkAnswer) (out′ : List ℕ) : Type 0 where
@@ -20,11 +20,11 @@ pub record LinkWrites (o : LinkOutcome) (out : List ℕ) (r : LinkAnswer) (out�
   pub output : out′ ≡ write-linked o out .output
 
 -- the words of a list that is right
-pub record Stocked (list starts : List ℕ) (count : ℕ) : Type 0 where
+pub record WordsKnown (list starts : List ℕ) (count : ℕ) : Type 0 where
   pub shelved : Shelved list starts count
   pub few : count ≤ wordLimit
 
 -- a text read for linking
-abbrev pub TextTells : (text : List ℕ) → TextRead → Type 0
-TextTells text Fine = Readable text × (read-text standard text ≡ PLAN (plan-of tokenLimit text))
-TextTells text (Fault f) = read-text standard text ≡ REFUSED (Text f)
+abbrev pub ReadOverTells : (text : List ℕ) → ReadOver → Type 0
+ReadOverTells text Fine = Readable text × (read-text standard text ≡ PLAN (plan-of tokenLimit text))
+ReadOverTells text (Fault f) = read-text standard text ≡ REFUSED (Text f)

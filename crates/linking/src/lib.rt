@@ -5,7 +5,7 @@ ghost use Rattle.plan.specs.Services.{standard};
 ghost use Rattle.words.specs.Answers.{link-read, read-text, within};
 ghost use Rattle.shelf.specs.Shelf.{Readable, linked-text, words-to};
 ghost use Rattle.linking.specs.Calls.{Links};
-ghost use Rattle.linking.specs.Parts.{LinkWrites, Stocked, TextTells};
+ghost use Rattle.linking.specs.Parts.{LinkWrites, WordsKnown, ReadOverTells};
 use kinds::Cell;
 use kinds::Place;
 use measuring::weigh;
@@ -14,31 +14,31 @@ use plan::TextFault;
 use reader::Surveyed;
 use reader::survey;
 use splicing::write;
-use vetting::Judged;
+use vetting::Vetted;
 use vetting::judge;
 use words::LinkAnswer;
 use words::LinkRefusal;
 
 // What a text is found to be, however many cells it has.
-pub enum TextRead {
+pub enum ReadOver {
     Fine,
     Fault(TextFault),
 }
 
 // A text within its limit has no more cells than bytes, so no item is past this room.
-fn read_over(text: &[u8]) -> TextRead
-    ensures { λ r. ⌜ TextTells (now (text .entry)) r ⌝ }
+fn read_over(text: &[u8]) -> ReadOver
+    ensures { λ r. ⌜ ReadOverTells (now (text .entry)) r ⌝ }
 {
     if Place::LIMIT < text.len() {
-        return TextRead::Fault(TextFault::TooLong);
+        return ReadOver::Fault(TextFault::TooLong);
     }
     match survey(text, Place::LIMIT as u32) {
-        Surveyed::Accepted { cells, length } => TextRead::Fine,
+        Surveyed::Accepted { cells, length } => ReadOver::Fine,
         Surveyed::Refused(refusal) => match refusal {
-            Refusal::Text(fault) => TextRead::Fault(fault),
-            Refusal::BadArena => TextRead::Fine,
-            Refusal::Overfull(past) => TextRead::Fine,
-            Refusal::OutShort(needed) => TextRead::Fine,
+            Refusal::Text(fault) => ReadOver::Fault(fault),
+            Refusal::BadArena => ReadOver::Fine,
+            Refusal::Overfull(past) => ReadOver::Fine,
+            Refusal::OutShort(needed) => ReadOver::Fine,
         },
     }
 }
@@ -51,7 +51,7 @@ fn link_readable(
     text: &[u8],
     output: &mut [u8],
 ) -> LinkAnswer
-    requires { ⌜ Stocked (now list) (now starts) count × Readable (now text) ⌝ }
+    requires { ⌜ WordsKnown (now list) (now starts) count × Readable (now text) ⌝ }
     ensures { λ r. ⌜ LinkWrites (within standard (linked-text (now (list .entry)) (now (starts .entry)) count (now (text .entry)))) (now (output .entry)) r (now (output .exit)) ⌝ }
 {
     let mut weights = [0u32; 512];
@@ -72,12 +72,12 @@ fn link_readable(
 
 // Links a text by the words of a list that is right.
 fn link_by(list: &[u8], starts: &[u32], count: u32, text: &[u8], output: &mut [u8]) -> LinkAnswer
-    requires { ⌜ Stocked (now list) (now starts) count ⌝ }
+    requires { ⌜ WordsKnown (now list) (now starts) count ⌝ }
     ensures { λ r. ⌜ LinkWrites (link-read standard (words-to (now (list .entry)) (now (starts .entry)) count) (read-text standard (now (text .entry)))) (now (output .entry)) r (now (output .exit)) ⌝ }
 {
     match read_over(text) {
-        TextRead::Fault(fault) => LinkAnswer::Refused(LinkRefusal::Text(fault)),
-        TextRead::Fine => link_readable(list, starts, count, text, output),
+        ReadOver::Fault(fault) => LinkAnswer::Refused(LinkRefusal::Text(fault)),
+        ReadOver::Fine => link_readable(list, starts, count, text, output),
     }
 }
 
@@ -87,7 +87,7 @@ pub fn link(list: &[u8], text: &[u8], output: &mut [u8]) -> LinkAnswer
 {
     let mut starts = [0u32; 256];
     match judge(list, &mut starts) {
-        Judged::Bad(rank) => LinkAnswer::Refused(LinkRefusal::BadWords(rank)),
-        Judged::Words(count) => link_by(list, &starts, count, text, output),
+        Vetted::Bad(rank) => LinkAnswer::Refused(LinkRefusal::BadWords(rank)),
+        Vetted::Words(count) => link_by(list, &starts, count, text, output),
     }
 }

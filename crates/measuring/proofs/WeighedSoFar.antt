@@ -13,17 +13,17 @@ use Rattle.shelf.specs.Shelf.{Readable, linked-text, linked-word, stands-to, wo
 use Rattle.shelf.proofs.Noting.{noted-long, noted-right}
 use Rattle.shelf.proofs.Standing.{LinkedSoFar, linked-first, linked-on, shelved-below, word-text}
 use Rattle.measuring.specs.declared.Weight.{Weight}
-use Rattle.measuring.specs.Weights.{Weighable, Weighed, plus, weight, weight-of}
+use Rattle.measuring.specs.Weights.{CanWeigh, WeightsKnown, plus, weight, weight-of}
 use Rattle.measuring.proofs.Weighing.{weight-append, weight-nothing, weight-pieces}
 
 pub record WeighedSoFar (list starts text : List ℕ) (n : ℕ) (notes₀ notes : List ℕ) (sum : Weight) (at : ℕ) : Type 0 where
   pub gone : List (Piece ℕ)
   pub so-far : LinkedSoFar list starts text n at gone
   pub right : sum ≡ weight-of gone
-  pub can : Weighable list starts text n notes
+  pub can : CanWeigh list starts text n notes
   pub same : length notes ≡ length notes₀
 
-pub weighed-first : {list starts text : List ℕ} {n : ℕ} {notes : List ℕ} → Weighable list starts text n notes
+pub weighed-first : {list starts text : List ℕ} {n : ℕ} {notes : List ℕ} → CanWeigh list starts text n notes
     → WeighedSoFar list starts text n notes notes (record { cells = 0; length = 0 }) 0
 weighed-first {list} {starts} {n = n} can =
     record { gone = []; so-far = linked-first list starts n (can .readable); right = sym weight-nothing; can = can; same = refl }
@@ -33,7 +33,7 @@ module _ {list starts text : List ℕ} {n : ℕ} {notes₀ notes : List ℕ} {su
   weighed-last over = inv .right ∙ ap weight-of (sym over) ∙ sym (weight-pieces (linked-text list starts n text))
 
   -- a word below the rank can be weighed
-  pub weighed-lower : {r : ℕ} {used : List ℕ} → r < n → used ≡ word-from list (getD starts r 0) .text → Weighable list starts used r notes
+  pub weighed-lower : {r : ℕ} {used : List ℕ} → r < n → used ≡ word-from list (getD starts r 0) .text → CanWeigh list starts used r notes
   weighed-lower {r} l e =
       record {
         shelved = shelved-below (omega arith) (inv .can .shelved);
@@ -44,7 +44,7 @@ module _ {list starts text : List ℕ} {n : ℕ} {notes₀ notes : List ℕ} {su
 
   module _ (k : CodePiece) (place rest : ℕ) (passed : Passed text at k place rest (inv .so-far .ahead .come)) where
     on : {here : List (Piece ℕ)} {w sum′ : Weight} (notes′ : List ℕ) → put-in (stands-to list starts n) (passed .first) ≡ here → w ≡ weight-of here → sum′ ≡ plus sum w
-        → Weighable list starts text n notes′ → length notes′ ≡ length notes → WeighedSoFar list starts text n notes₀ notes′ sum′ rest
+        → CanWeigh list starts text n notes′ → length notes′ ≡ length notes → WeighedSoFar list starts text n notes₀ notes′ sum′ rest
     on {here} {w} {sum′} notes′ put is e can long =
         record {
           gone = inv .gone ++ here;
@@ -60,7 +60,7 @@ module _ {list starts text : List ℕ} {n : ℕ} {notes₀ notes : List ℕ} {su
 
     -- a word that was not remembered: it is weighed, and is remembered now
     pub weighed-word : {r : ℕ} {used : List ℕ} {w sum′ : Weight} (notes₁ notes′ : List ℕ) → (r < n) × (put-in (stands-to list starts n) (passed .first) ≡ pieces (linked-word list starts r))
-        → used ≡ word-from list (getD starts r 0) .text → w ≡ weight (linked-text list starts r used) → Weighed list starts notes₁ → length notes₁ ≡ length notes
+        → used ≡ word-from list (getD starts r 0) .text → w ≡ weight (linked-text list starts r used) → WeightsKnown list starts notes₁ → length notes₁ ≡ length notes
         → notes′ ≡ with-note notes₁ r (w .cells) (w .length) → sum′ ≡ plus sum w
         → WeighedSoFar list starts text n notes₀ notes′ sum′ rest
     unfolding linked-word

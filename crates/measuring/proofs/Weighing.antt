@@ -22,7 +22,7 @@ use Rattle.shelf.proofs.Standing.{piece-listed, piece-unlisted}
 use Rattle.measuring.specs.declared.AtHand.{AtHand}
 use Rattle.measuring.specs.declared.AtHand.the-variants.{Known, Word}
 use Rattle.measuring.specs.declared.Weight.{Weight}
-use Rattle.measuring.specs.Weights.{AtHandTells, Weighed, pastBytes, pastCells, piece-cells, plus, weighing, weight, weight-of}
+use Rattle.measuring.specs.Weights.{AtHandTells, WeightsKnown, pastBytes, pastCells, piece-cells, plus, weighing, weight, weight-of}
 
 pub weight-pieces : {L : Type 0} (p : Plan L) → weight p ≡ weight-of (pieces p)
 unfolding weight weight-of
@@ -77,7 +77,7 @@ module _ (list starts text : List ℕ) (n : ℕ) {k : CodePiece} {x : Piece ℕ}
     pub hand-word : (r < n) × (put-in (stands-to list starts n) x ≡ pieces (linked-word list starts r))
     hand-word = piece-listed list starts n x (sym told ∙ e)
 
-    pub hand-known : (notes : List ℕ) {a b : ℕ} {was : Noted} → Weighed list starts notes → was ≡ noted notes r → was ≡ Both a b
+    pub hand-known : (notes : List ℕ) {a b : ℕ} {was : Noted} → WeightsKnown list starts notes → was ≡ noted notes r → was ≡ Both a b
         → record { cells = a; length = b } ≡ weight-of (put-in (stands-to list starts n) x)
     hand-known notes known is-noted both =
         sym (known r _ _ (sym is-noted ∙ both)) ∙ weight-pieces (linked-word list starts r) ∙ ap weight-of (sym (hand-word .1))

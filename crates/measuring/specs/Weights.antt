@@ -44,14 +44,14 @@ piece-cells Open = 1
 piece-cells Close = 0
 
 -- what is remembered of a word is the weight of its linked plan
-abbrev pub Weighed : (list starts notes : List ℕ) → Type 0
-Weighed list starts notes = (r a b : ℕ) → noted notes r ≡ Both a b → weight (linked-word list starts r) ≡ record { cells = a; length = b }
+abbrev pub WeightsKnown : (list starts notes : List ℕ) → Type 0
+WeightsKnown list starts notes = (r a b : ℕ) → noted notes r ≡ Both a b → weight (linked-word list starts r) ≡ record { cells = a; length = b }
 
 -- a text can be weighed by the words of the ranks below n
-pub record Weighable (list starts text : List ℕ) (n : ℕ) (notes : List ℕ) : Type 0 where
+pub record CanWeigh (list starts text : List ℕ) (n : ℕ) (notes : List ℕ) : Type 0 where
   pub shelved : Shelved list starts n
   pub readable : Readable text
-  pub known : Weighed list starts notes
+  pub known : WeightsKnown list starts notes
   pub long : 2 * n ≤ length notes
 
 -- the weight of what is put for a piece is at hand, or it is a word's, which is not remembered

@@ -7,7 +7,7 @@ ghost use lib.ListN.{length};
 ghost use Rattle.plan.specs.Pieces.{Piece as PlanPiece};
 ghost use Rattle.pieces.specs.Written.{Is};
 ghost use Rattle.shelf.specs.Shelf.{PieceStands, linked-text};
-ghost use Rattle.measuring.specs.Weights.{AtHandTells, Weighable, Weighed, pastBytes, piece-cells, plus, weight, weight-of};
+ghost use Rattle.measuring.specs.Weights.{AtHandTells, CanWeigh, WeightsKnown, pastBytes, piece-cells, plus, weight, weight-of};
 use items::Cursor;
 use items::NextPiece;
 use items::next;
@@ -93,7 +93,7 @@ fn at_hand(
     notes: &[u32],
     piece: Piece,
 ) -> AtHand
-    requires { ⌜ Weighable (now list) (now starts) (now text) below (now notes) × PieceStands (now text) piece ⌝ }
+    requires { ⌜ CanWeigh (now list) (now starts) (now text) below (now notes) × PieceStands (now text) piece ⌝ }
     ensures { λ r. ⌜ ((x : PlanPiece ℕ) → Is (now (text .entry)) piece x → AtHandTells (now (list .entry)) (now (starts .entry)) below r x) ⌝ }
 {
     match find_piece(list, starts, below, text, piece) {
@@ -108,9 +108,9 @@ fn at_hand(
 // Weighs a text's plan, linked by the words of the ranks below a bound. A word that it uses and that is not remembered is weighed by this
 // same function: its rank is smaller, so this ends.
 pub fn weigh(list: &[u8], starts: &[u32], text: &[u8], below: u32, notes: &mut [u32]) -> Weight
-    requires { ⌜ Weighable (now list) (now starts) (now text) below (now notes) ⌝ }
+    requires { ⌜ CanWeigh (now list) (now starts) (now text) below (now notes) ⌝ }
     ensures told { λ r. ⌜ r ≡ weight (linked-text (now (list .entry)) (now (starts .entry)) below (now (text .entry))) ⌝ }
-    ensures known { λ r. ⌜ Weighed (now (list .entry)) (now (starts .entry)) (now (notes .exit)) ⌝ }
+    ensures known { λ r. ⌜ WeightsKnown (now (list .entry)) (now (starts .entry)) (now (notes .exit)) ⌝ }
     ensures as_long { λ r. ⌜ length (now (notes .exit)) ≡ length (now (notes .entry)) ⌝ }
 {
     let mut sum = Weight {

@@ -13,9 +13,9 @@ use Rattle.shelf.specs.declared.Named.the-variants.{Unlisted, Listed}
 use Rattle.shelf.proofs.Standing.{piece-listed, piece-unlisted}
 use Rattle.measuring.specs.Weights.{weight}
 use Rattle.measuring.specs.declared.Weight.{Weight}
-use Rattle.splicing.specs.declared.Putting.{Putting}
-use Rattle.splicing.specs.declared.Putting.the-variants.{Itself, Copy, Word}
-use Rattle.splicing.specs.Splicing.{PuttingTells, StandsBefore, WordTells}
+use Rattle.splicing.specs.declared.ToPut.{ToPut}
+use Rattle.splicing.specs.declared.ToPut.the-variants.{Itself, Copy, Word}
+use Rattle.splicing.specs.Splicing.{ToPutTells, StandsBefore, WordTells}
 
 -- a plan of no cells prints nothing
 pub nothing-printed : (p : Plan ℕ) {a b : ℕ} → weight p ≡ record { cells = a; length = b } → a ≡ 0 → print p ≡ []
@@ -32,24 +32,24 @@ module _ (list starts : List ℕ) (n : ℕ) (out : List ℕ) (put : ℕ) (x : Pi
   pub puts-below : {r : ℕ} → found ≡ Listed r → r < n
   puts-below e = piece-listed list starts n x (sym told ∙ e) .0
 
-  pub puts-word : {r : ℕ} (p : Putting) → found ≡ Listed r → WordTells list starts out put r p → PuttingTells list starts n out put p x
+  pub puts-word : {r : ℕ} (p : ToPut) → found ≡ Listed r → WordTells list starts out put r p → ToPutTells list starts n out put p x
   puts-word {r} p e tells = go p tells
     where
       listed-so : (r < n) × (put-in (stands-to list starts n) x ≡ pieces (linked-word list starts r))
       listed-so = piece-listed list starts n x (sym told ∙ e)
 
-      go : (q : Putting) → WordTells list starts out put r q → PuttingTells list starts n out put q x
+      go : (q : ToPut) → WordTells list starts out put r q → ToPutTells list starts n out put q x
       go Itself h = absurd h
       go (Copy from len) (before, is) = (before, is ∙ print-pieces (linked-word list starts r) ∙ ap in-a-row (sym (listed-so .1)))
       go (Word s) h = subst (λ k. (k < n) × (put-in (stands-to list starts n) x ≡ pieces (linked-word list starts k))) (sym h) listed-so
 
 -- what was told of a piece, by what it was found to be
-module _ (list starts : List ℕ) (n : ℕ) (out : List ℕ) (put : ℕ) (x : Piece ℕ) {h : Putting} (tells : PuttingTells list starts n out put h x) where
+module _ (list starts : List ℕ) (n : ℕ) (out : List ℕ) (put : ℕ) (x : Piece ℕ) {h : ToPut} (tells : ToPutTells list starts n out put h x) where
   pub tells-itself : h ≡ Itself → put-in (stands-to list starts n) x ≡ x ∷ []
-  tells-itself e = subst (λ z. PuttingTells list starts n out put z x) e tells
+  tells-itself e = subst (λ z. ToPutTells list starts n out put z x) e tells
 
   pub tells-copy : {from len : ℕ} → h ≡ Copy from len → StandsBefore out put from len (in-a-row (put-in (stands-to list starts n) x))
-  tells-copy e = subst (λ z. PuttingTells list starts n out put z x) e tells
+  tells-copy e = subst (λ z. ToPutTells list starts n out put z x) e tells
 
   pub tells-word : {r : ℕ} → h ≡ Word r → (r < n) × (put-in (stands-to list starts n) x ≡ pieces (linked-word list starts r))
-  tells-word e = subst (λ z. PuttingTells list starts n out put z x) e tells
+  tells-word e = subst (λ z. ToPutTells list starts n out put z x) e tells

@@ -18,7 +18,7 @@ use Rattle.shelf.specs.Notes.{noted, with-note}
 use Rattle.shelf.specs.Shelf.{Readable, linked-text, linked-word, stands-to, word-from}
 use Rattle.shelf.proofs.Noting.{noted-long, noted-right}
 use Rattle.shelf.proofs.Standing.{LinkedSoFar, linked-first, linked-on, linked-part, shelved-below, word-text}
-use Rattle.splicing.specs.Splicing.{Placed, Ready, StandsBefore, Writable, printedLimit}
+use Rattle.splicing.specs.Splicing.{WordsPlaced, WordsReady, StandsBefore, Writable, printedLimit}
 use Rattle.splicing.proofs.Standing.{stands-here, stands-on}
 
 pub record SplicedSoFar (list starts text : List ℕ) (n : ℕ) (weights places₀ out₀ : List ℕ) (put : ℕ) (places out : List ℕ) (end at : ℕ) : Type 0 where
@@ -26,7 +26,7 @@ pub record SplicedSoFar (list starts text : List ℕ) (n : ℕ) (weights places�
   pub so-far : LinkedSoFar list starts text n at gone
   pub end-is : end ≡ put + length (in-a-row gone)
   pub holds : out ≡ put-at out₀ put (in-a-row gone)
-  pub ready : Ready list starts n weights places out end
+  pub ready : WordsReady list starts n weights places out end
   pub room : put + length (print (linked-text list starts n text)) ≤ length out₀
   pub small : put + length (print (linked-text list starts n text)) ≤ printedLimit
   pub same : length places ≡ length places₀
@@ -88,7 +88,7 @@ module _ {list starts text : List ℕ} {n : ℕ} {weights places₀ out₀ : Lis
           )
 
       on : (bytes places′ out′ : List ℕ) (end′ : ℕ) → bytes ≡ in-a-row here → out′ ≡ put-at out end bytes → end′ ≡ end + length bytes
-          → Placed list starts places′ out′ end′ → length places′ ≡ length places
+          → WordsPlaced list starts places′ out′ end′ → length places′ ≡ length places
           → SplicedSoFar list starts text n weights places₀ out₀ put places′ out′ end′ rest
       on bytes places′ out′ end′ b e f placed long =
           let row = row-append (inv .gone) here in
@@ -113,7 +113,7 @@ module _ {list starts text : List ℕ} {n : ℕ} {weights places₀ out₀ : Lis
           }
 
       -- what is remembered stays where it stands
-      kept : (bytes out′ : List ℕ) → bytes ≡ in-a-row here → out′ ≡ put-at out end bytes → Placed list starts places out′ (end + length bytes)
+      kept : (bytes out′ : List ℕ) → bytes ≡ in-a-row here → out′ ≡ put-at out end bytes → WordsPlaced list starts places out′ (end + length bytes)
       kept bytes out′ b e r x y h =
           let fits : end + length bytes ≤ length out = omega (arith, roomy .0, ap length b) in
           subst (λ l. StandsBefore l (end + length bytes) x y (print (linked-word list starts r))) (sym e)
@@ -142,7 +142,7 @@ module _ {list starts text : List ℕ} {n : ℕ} {weights places₀ out₀ : Lis
       spliced-itself {len} out′ e l =
           let same : end + len ≡ end + length (piece-bytes text k) = omega (arith, size) in
           on stays (piece-bytes text k) places out′ (end + len) itself e same
-          (subst (λ m. Placed list starts places out′ m) (sym same) (kept stays (piece-bytes text k) out′ itself e)) refl
+          (subst (λ m. WordsPlaced list starts places out′ m) (sym same) (kept stays (piece-bytes text k) out′ itself e)) refl
 
     -- bytes that stand in the output
     module _ (from len : ℕ) (stands : StandsBefore out end from len (in-a-row (put-in (stands-to list starts n) (passed .first)))) where
@@ -160,7 +160,7 @@ module _ {list starts text : List ℕ} {n : ℕ} {weights places₀ out₀ : Lis
       spliced-copy out′ e =
           let same : end + len ≡ end + length (take len (drop from out)) = omega (arith, long-so, ap length (stands .1)) in
           on refl (take len (drop from out)) places out′ (end + len) (stands .1) e same
-          (subst (λ m. Placed list starts places out′ m) (sym same) (kept refl (take len (drop from out)) out′ (stands .1) e)) refl
+          (subst (λ m. WordsPlaced list starts places out′ m) (sym same) (kept refl (take len (drop from out)) out′ (stands .1) e)) refl
 
     -- a word that was not written yet
     module _ {r : ℕ} (found : (r < n) × (put-in (stands-to list starts n) (passed .first) ≡ pieces (linked-word list starts r)))
@@ -193,7 +193,7 @@ module _ {list starts text : List ℕ} {n : ℕ} {weights places₀ out₀ : Lis
         spliced-behind-small = (omega (arith, roomy (found .1) .1, ap length printed, there), omega (arith, there))
 
         pub spliced-word : (places₁ places′ out′ : List ℕ) → out′ ≡ put-at out end (print (linked-text list starts r used))
-            → Placed list starts places₁ out′ behind → length places₁ ≡ length places → places′ ≡ with-note places₁ r end (behind - end)
+            → WordsPlaced list starts places₁ out′ behind → length places₁ ≡ length places → places′ ≡ with-note places₁ r end (behind - end)
             → SplicedSoFar list starts text n weights places₀ out₀ put places′ out′ behind rest
         spliced-word places₁ places′ out′ e placed long noted-so =
             let bytes = print (linked-text list starts r used) in

@@ -10,8 +10,8 @@ ghost use Rattle.plan.specs.Pieces.{Piece as PlanPiece};
 ghost use Rattle.plan.specs.Plan.{print};
 ghost use Rattle.pieces.specs.Written.{Is, put-at};
 ghost use Rattle.shelf.specs.Shelf.{PieceStands, Shelved, linked-text, linked-word};
-ghost use Rattle.measuring.specs.Weights.{Weighed};
-ghost use Rattle.splicing.specs.Splicing.{Placed, PuttingTells, WordTells, Writable};
+ghost use Rattle.measuring.specs.Weights.{WeightsKnown};
+ghost use Rattle.splicing.specs.Splicing.{WordsPlaced, ToPutTells, WordTells, Writable};
 use items::Cursor;
 use items::NextPiece;
 use items::next;
@@ -25,7 +25,7 @@ use shelf::recall;
 use shelf::text_at;
 
 // What is put for a piece: the piece itself, bytes that stand in the output already, or a word that was not written yet.
-pub enum Putting {
+pub enum ToPut {
     Itself,
     Copy { from: usize, len: usize },
     Word(u32),
@@ -46,7 +46,7 @@ fn copy_on(out: &mut [u8], from: usize, len: usize, put: usize)
 // Whether a word was weighed and links to nothing.
 fn is_nothing(weights: &[u32], word: u32) -> bool
     requires { ⌜ 2 * word + 1 < length (now weights) ⌝ }
-    ensures { λ r. ⌜ ((list starts : List ℕ) → Weighed list starts (now (weights .entry)) → r ≡ true → print (linked-word list starts word) ≡ []) ⌝ }
+    ensures { λ r. ⌜ ((list starts : List ℕ) → WeightsKnown list starts (now (weights .entry)) → r ≡ true → print (linked-word list starts word) ≡ []) ⌝ }
 {
     match recall(weights, word) {
         Noted::Nothing => false,
@@ -55,16 +55,16 @@ fn is_nothing(weights: &[u32], word: u32) -> bool
 }
 
 // What is put for a word.
-fn put_for_word(weights: &[u32], places: &[u32], word: u32) -> Putting
+fn put_for_word(weights: &[u32], places: &[u32], word: u32) -> ToPut
     requires { ⌜ (2 * word + 1 < length (now weights)) × (2 * word + 1 < length (now places)) ⌝ }
-    ensures { λ r. ⌜ ((list starts out : List ℕ) (put : ℕ) → Weighed list starts (now (weights .entry)) → Placed list starts (now (places .entry)) out put → WordTells list starts out put word r) ⌝ }
+    ensures { λ r. ⌜ ((list starts out : List ℕ) (put : ℕ) → WeightsKnown list starts (now (weights .entry)) → WordsPlaced list starts (now (places .entry)) out put → WordTells list starts out put word r) ⌝ }
 {
     if is_nothing(weights, word) {
-        return Putting::Copy { from: 0, len: 0 };
+        return ToPut::Copy { from: 0, len: 0 };
     }
     match recall(places, word) {
-        Noted::Nothing => Putting::Word(word),
-        Noted::Both(from, len) => Putting::Copy {
+        Noted::Nothing => ToPut::Word(word),
+        Noted::Both(from, len) => ToPut::Copy {
             from: from as usize,
             len: len as usize,
         },
@@ -80,12 +80,12 @@ fn put_for(
     weights: &[u32],
     places: &[u32],
     piece: Piece,
-) -> Putting
+) -> ToPut
     requires { ⌜ Shelved (now list) (now starts) below × (2 * below ≤ length (now weights)) × (2 * below ≤ length (now places)) × PieceStands (now text) piece ⌝ }
-    ensures { λ r. ⌜ ((out : List ℕ) (put : ℕ) (x : PlanPiece ℕ) → Weighed (now (list .entry)) (now (starts .entry)) (now (weights .entry)) → Placed (now (list .entry)) (now (starts .entry)) (now (places .entry)) out put → Is (now (text .entry)) piece x → PuttingTells (now (list .entry)) (now (starts .entry)) below out put r x) ⌝ }
+    ensures { λ r. ⌜ ((out : List ℕ) (put : ℕ) (x : PlanPiece ℕ) → WeightsKnown (now (list .entry)) (now (starts .entry)) (now (weights .entry)) → WordsPlaced (now (list .entry)) (now (starts .entry)) (now (places .entry)) out put → Is (now (text .entry)) piece x → ToPutTells (now (list .entry)) (now (starts .entry)) below out put r x) ⌝ }
 {
     match find_piece(list, starts, below, text, piece) {
-        Named::Unlisted => Putting::Itself,
+        Named::Unlisted => ToPut::Itself,
         Named::Listed(word) => put_for_word(weights, places, word),
     }
 }
@@ -105,7 +105,7 @@ pub fn write(
     requires { ⌜ Writable (now list) (now starts) (now text) below (now weights) (now places) (now out) put ⌝ }
     ensures behind { λ r. ⌜ r ≡ put + length (print (linked-text (now (list .entry)) (now (starts .entry)) below (now (text .entry)))) ⌝ }
     ensures written { λ r. ⌜ now (out .exit) ≡ put-at (now (out .entry)) put (print (linked-text (now (list .entry)) (now (starts .entry)) below (now (text .entry)))) ⌝ }
-    ensures placed { λ r. ⌜ Placed (now (list .entry)) (now (starts .entry)) (now (places .exit)) (now (out .exit)) r ⌝ }
+    ensures placed { λ r. ⌜ WordsPlaced (now (list .entry)) (now (starts .entry)) (now (places .exit)) (now (out .exit)) r ⌝ }
     ensures as_long { λ r. ⌜ length (now (places .exit)) ≡ length (now (places .entry)) ⌝ }
 {
     let mut end = put;
@@ -115,15 +115,15 @@ pub fn write(
             NextPiece::End => return end,
             NextPiece::Piece { piece, at, rest } => {
                 match put_for(list, starts, text, below, weights, places, piece) {
-                    Putting::Itself => {
+                    ToPut::Itself => {
                         put_piece(text, piece, out, end);
                         end += piece.length() as usize;
                     }
-                    Putting::Copy { from, len } => {
+                    ToPut::Copy { from, len } => {
                         copy_on(out, from, len, end);
                         end += len;
                     }
-                    Putting::Word(word) => {
+                    ToPut::Word(word) => {
                         let place = starts[word as usize] as usize;
                         let used = text_at(list, place);
                         let behind = write(list, starts, used, word, weights, places, out, end);

@@ -16,8 +16,8 @@ use Rattle.words.specs.Stock.{FAULT, Stock, WORDS, fits, word, wordLimit}
 use Rattle.shelf.specs.Shelf.{Shelved, seek-piece, word-of, words-to}
 use Rattle.shelf.specs.declared.Named.{Named}
 use Rattle.shelf.specs.declared.Named.the-variants.{Unlisted, Listed}
-use Rattle.vetting.specs.declared.Judged.{Judged}
-use Rattle.vetting.specs.declared.Judged.the-variants.{Bad, Words}
+use Rattle.vetting.specs.declared.Vetted.{Vetted}
+use Rattle.vetting.specs.declared.Vetted.the-variants.{Bad, Words}
 use Rattle.vetting.specs.declared.Shelf.{Shelf}
 use Rattle.vetting.specs.declared.WordEnd.{WordEnd}
 use Rattle.vetting.specs.declared.WordEnd.the-variants.{Unfit, Fit}
@@ -86,10 +86,10 @@ abbrev pub shelf-told : (list starts : List ℕ) → Shelf → Fitting
 shelf-told list starts s = record { words = words-to list starts (s .fit); whole = s .whole }
 
 -- what was found of the whole list
-abbrev pub judged-told : (list starts : List ℕ) → Judged → Stock
-judged-told list starts (Bad rank) = FAULT rank
-judged-told list starts (Words count) = WORDS (words-to list starts count)
+abbrev pub vetted-told : (list starts : List ℕ) → Vetted → Stock
+vetted-told list starts (Bad rank) = FAULT rank
+vetted-told list starts (Words count) = WORDS (words-to list starts count)
 
-abbrev pub JudgedShelved : (list starts : List ℕ) → Judged → Type 0
-JudgedShelved list starts (Bad rank) = Unit {0}
-JudgedShelved list starts (Words count) = Shelved list starts count × (count ≤ wordLimit)
+abbrev pub VettedShelved : (list starts : List ℕ) → Vetted → Type 0
+VettedShelved list starts (Bad rank) = Unit {0}
+VettedShelved list starts (Words count) = Shelved list starts count × (count ≤ wordLimit)

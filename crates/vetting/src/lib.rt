@@ -12,7 +12,7 @@ ghost use Rattle.plan.specs.Token.{all-permitted};
 ghost use Rattle.words.specs.Linking.{plan-of};
 ghost use Rattle.words.specs.Stock.{acceptable, stock, wordLimit};
 ghost use Rattle.shelf.specs.Shelf.{Readable, Shelved, words-to};
-ghost use Rattle.vetting.specs.Vetting.{EndTells, JudgedShelved, OwnNames, earliest, fitting, is-name, is-new-name, judged-told, lower, lowered, shelf-told};
+ghost use Rattle.vetting.specs.Vetting.{EndTells, VettedShelved, OwnNames, earliest, fitting, is-name, is-new-name, vetted-told, lower, lowered, shelf-told};
 use items::Cursor;
 use items::NextPiece;
 use items::next;
@@ -33,7 +33,7 @@ use text::may_hold;
 use words::MOST;
 
 // What a list is found to be: the least rank at fault, or so many words.
-pub enum Judged {
+pub enum Vetted {
     Bad(u32),
     Words(u32),
 }
@@ -215,27 +215,27 @@ fn earliest(list: &[u8], starts: &[u32], fit: u32) -> u32
 }
 
 // Judges a list, and finds where its words begin.
-pub fn judge(list: &[u8], starts: &mut [u32]) -> Judged
+pub fn judge(list: &[u8], starts: &mut [u32]) -> Vetted
     requires { ⌜ wordLimit ≤ length (now starts) ⌝ }
-    ensures told { λ r. ⌜ stock standard (now (list .entry)) ≡ judged-told (now (list .entry)) (now (starts .exit)) r ⌝ }
-    ensures shelved { λ r. ⌜ JudgedShelved (now (list .entry)) (now (starts .exit)) r ⌝ }
+    ensures told { λ r. ⌜ stock standard (now (list .entry)) ≡ vetted-told (now (list .entry)) (now (starts .exit)) r ⌝ }
+    ensures shelved { λ r. ⌜ VettedShelved (now (list .entry)) (now (starts .exit)) r ⌝ }
 {
     match number_at(list, 0) {
-        NumberAt::Cut => Judged::Bad(0),
+        NumberAt::Cut => Vetted::Bad(0),
         NumberAt::Whole(count) => {
             if MOST < count {
-                return Judged::Bad(MOST);
+                return Vetted::Bad(MOST);
             }
             let shelf = shelve(list, starts, count);
             let fit = shelf.fit;
             let early = earliest(list, starts, fit);
             if early < fit {
-                return Judged::Bad(early);
+                return Vetted::Bad(early);
             }
             if shelf.whole {
-                return Judged::Words(fit);
+                return Vetted::Words(fit);
             }
-            Judged::Bad(fit)
+            Vetted::Bad(fit)
         }
     }
 }

@@ -1,6 +1,6 @@
 -- `link`: the list's fault comes first.
 use borrow.Author.Needs.{needs}
-use Rattle.linking.proofs.Outcomes.{judged-bad, judged-right, judged-stocked, list-bad, list-right}
+use Rattle.linking.proofs.Outcomes.{vetted-bad, vetted-right, vetted-stocked, list-bad, list-right}
 use Rattle.linking.proofs.link.Statement.{statement}
 use Rattle.linking.proofs.link.Tie as tie
 
@@ -20,16 +20,16 @@ slice-aggregate-link-by : tie.Need-slice-aggregate-link-by
 slice-aggregate-link-by c = search needs
 
 link-by-requires : tie.Need-link-by-requires
-link-by-requires c κs = judged-stocked _ _ (c .before .before .before .before .before .before .judge .ensures .1) (c .before .before .before .count .given .1)
+link-by-requires c κs = vetted-stocked _ _ (c .before .before .before .before .before .before .judge .ensures .1) (c .before .before .before .count .given .1)
 
 returns : tie.Need-returns
-returns c = list-bad _ _ _ (judged-bad _ _ (c .before .before .before .before .judge .ensures .0) (c .before .rank .given .1))
+returns c = list-bad _ _ _ (vetted-bad _ _ (c .before .before .before .before .judge .ensures .0) (c .before .rank .given .1))
 
 same-length : tie.Need-same-length
 same-length c = search needs
 
 returns-2 : tie.Need-returns-2
-returns-2 c = list-right _ _ _ _ _ (judged-right _ _ (c .before .before .before .before .before .before .before .before .before .judge .ensures .0) (c .before .before .before .before .before .before .count .given .1)) (c .before .before .link-by .ensures)
+returns-2 c = list-right _ _ _ _ _ (vetted-right _ _ (c .before .before .before .before .before .before .before .before .before .judge .ensures .0) (c .before .before .before .before .before .before .count .given .1)) (c .before .before .link-by .ensures)
 
 pub link-spec : {M : Type 1} → statement M
 link-spec =

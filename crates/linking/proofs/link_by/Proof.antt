@@ -2,7 +2,7 @@
 use borrow.Author.Needs.{needs}
 use mathlib.Core.Path.{subst}
 use Rattle.linking.proofs.Outcomes.{fault-written, fine-written}
-use Rattle.linking.specs.Parts.{TextTells}
+use Rattle.linking.specs.Parts.{ReadOverTells}
 use Rattle.linking.proofs.link_by.Statement.{statement}
 use Rattle.linking.proofs.link_by.Tie as tie
 
@@ -17,16 +17,16 @@ enum-told c = search needs
 
 link-readable-requires : tie.Need-link-readable-requires
 link-readable-requires c κs = let s = c .before .before .before .before .before .before .before .before in
-    (s .pre, subst (TextTells _) (c .before .enum-told .given .1) (c .before .before .before .read-over .ensures) .0)
+    (s .pre, subst (ReadOverTells _) (c .before .enum-told .given .1) (c .before .before .before .read-over .ensures) .0)
 
 returns : tie.Need-returns
-returns c = fault-written _ _ _ _ _ (subst (TextTells _) (c .before .fault .given .1) (c .before .before .before .read-over .ensures))
+returns c = fault-written _ _ _ _ _ (subst (ReadOverTells _) (c .before .fault .given .1) (c .before .before .before .read-over .ensures))
 
 same-length : tie.Need-same-length
 same-length c = search needs
 
 returns-2 : tie.Need-returns-2
-returns-2 c = fine-written _ _ _ _ _ (subst (TextTells _) (c .before .before .before .before .enum-told .given .1) (c .before .before .before .before .before .before .read-over .ensures) .1) (c .before .before .link-readable .ensures)
+returns-2 c = fine-written _ _ _ _ _ (subst (ReadOverTells _) (c .before .before .before .before .enum-told .given .1) (c .before .before .before .before .before .before .read-over .ensures) .1) (c .before .before .link-readable .ensures)
 
 pub link-by-spec : {M : Type 1} → statement M
 link-by-spec =

@@ -6,7 +6,7 @@ use borrow.Author.Needs.{needs}
 use native.Mathlib.Omega.{arith}
 use Rattle.items.specs.Walk.{Passed}
 use Rattle.shelf.proofs.Standing.{linked-less, linked-over, linked-passed, linked-stands}
-use Rattle.splicing.specs.Splicing.{PuttingTells}
+use Rattle.splicing.specs.Splicing.{ToPutTells}
 use Rattle.splicing.proofs.PutFor.{tells-copy, tells-itself, tells-word}
 use Rattle.splicing.proofs.SplicedSoFar.{SplicedSoFar, copied-room, copied-small, spliced-behind, spliced-behind-small, spliced-copy, spliced-end, spliced-first, spliced-in-text, spliced-itself, spliced-long, spliced-lower, spliced-room, spliced-small, spliced-word, spliced-written}
 use borrow.Fn.Kinds.{In}
@@ -57,7 +57,7 @@ passed : (t : ℕ) (f : Put t)
 passed t f = linked-passed (turn t f .loop .inv .so-far) (f .before .before .before .before .before .next .ensures) (f .before .before .before .piece .given .1)
 
 tells : (t : ℕ) (f : Put t)
-    → PuttingTells (turn t f .before .before .before .before .before .before .before .args .list .now) (turn t f .before .before .before .before .before .before .before .args .starts .now) (turn t f .before .before .before .before .before .before .before .args .below) (turn t f .loop .out) (turn t f .loop .end)
+    → ToPutTells (turn t f .before .before .before .before .before .before .before .args .list .now) (turn t f .before .before .before .before .before .before .before .args .starts .now) (turn t f .before .before .before .before .before .before .before .args .below) (turn t f .loop .out) (turn t f .loop .end)
     (f .put-for .result) (passed t f .first)
 tells t f = let inv = turn t f .loop .inv in f .put-for .ensures _ _ _ (inv .ready .known) (inv .ready .placed) (passed t f .is)
 
