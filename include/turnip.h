@@ -15,24 +15,26 @@ extern "C" {
 
 /* What is lent.
 
-   A slice is a pointer and then a length, counted in elements: bytes for a text, an output, a roll or a job number, 32-bit
-   numbers for a work memory or a list. The caller owns everything that is lent, before, during and after a call. Nothing is allocated, nothing is kept
-   between calls, and nothing that was lent is looked at after the call; so calls from several threads do not disturb each
-   other if what is written is lent to one of them only: outputs, memories, answers, lists, tallies, and a roll that is added to. A call uses a small fixed amount of stack, also for a plan
-   nested to the limit; linking uses more with each word that uses another (README.md says how much).
+   A slice is a pointer and then a length, counted in elements: bytes for a text, an output, a word list, a roll or a job number,
+   32-bit numbers for a work memory or a list of places. The caller owns everything that is lent, before, during and after a call.
+   Nothing is allocated, nothing is kept between calls, and nothing that was lent is looked at after the call; so calls from
+   several threads do not disturb each other if what is written is lent to one of them only: outputs, memories, answers, lists of
+   places, tallies, and a roll that is added to. A call uses a small fixed amount of stack, also for a plan nested to the limit;
+   linking uses more with each word that uses another, some 155 KiB with a chain of 256 words.
 
-   No pointer may be NULL, also not that of a slice of length 0: point it at any byte of yours (for a memory or a list, at any
-   uint32_t). Numbers are aligned as uint32_t is. What is written (out, memory, answer; list, tally, a roll that is added to) must
-   not overlap anything else that is lent to the same call: so a job number or a text that stands in a roll is copied out of it
-   before it is added there. Apart from this a call asks nothing: any bytes, any lengths and any quota are answered. */
+   No pointer may be NULL, also not that of a slice of length 0: point it at any byte of yours (for a memory or a list of places,
+   at any uint32_t). Numbers are aligned as uint32_t is. What is written (out, memory, answer; a list of places, a tally, a roll
+   that is added to) must not overlap anything else that is lent to the same call: so a job number or a text that stands in a roll
+   is copied out of it before it is added there. Apart from this a call asks nothing: any bytes, any lengths and any quota are
+   answered. */
 
 /* The five numbers of an answer, in answer[0] to answer[4]. */
 enum turnip_field {
     TURNIP_NUMBER, /* which answer this is: one of the numbers below */
-    TURNIP_STEPS,  /* rewrites made; 0 for CHECK and TIDY, and for 11 to 18 */
-    TURNIP_CELLS,  /* cells of the resulting plan; 0 for 11 to 18 */
-    TURNIP_LENGTH, /* bytes of its printed text; 0 for 11 to 18 */
-    TURNIP_PLACE,  /* a place in the text, or the bytes needed; 0 for 0 to 3, 11 and 12 */
+    TURNIP_STEPS,  /* rewrites made; 0 for CHECK, TIDY and LINK, and for 11 to 26 */
+    TURNIP_CELLS,  /* cells of the resulting plan; 0 for 11 to 26 */
+    TURNIP_LENGTH, /* bytes of its printed text; 0 for 11 to 26 */
+    TURNIP_PLACE,  /* a place in the text, the bytes needed, or a rank; 0 for 0 to 3, 11 and 12 */
     TURNIP_FIELDS
 };
 
@@ -41,7 +43,7 @@ enum turnip_number {
     TURNIP_DONE = 0,       /* RUN: no operator is ready, at any depth */
     TURNIP_QUOTA = 1,      /* RUN: the steps made equal the quota, and there is a next result that fits */
     TURNIP_FULL = 2,       /* RUN: the next result has more cells than the work memory gives */
-    TURNIP_READ = 3,       /* CHECK, TIDY: the text is accepted, finished or not */
+    TURNIP_READ = 3,       /* CHECK, TIDY, LINK: the text is accepted, finished or not */
     TURNIP_TOOLONG = 11,   /* the text is over 1,048,576 bytes */
     TURNIP_BADARENA = 12,  /* RUN: the work memory gives more than 4,096 cells */
     TURNIP_BADBYTE = 13,   /* a byte that means nothing outside tokens; its place */
@@ -49,7 +51,7 @@ enum turnip_number {
     TURNIP_UNMATCHED = 15, /* a ] with no block open; its place */
     TURNIP_UNCLOSED = 16,  /* the text ends in an open block; the place is the text's length */
     TURNIP_OVERFULL = 17,  /* more cells than there may be; the place is the first byte of the first item past them */
-    TURNIP_OUTSHORT = 18   /* TIDY, RUN: the printed text is longer than the output; the place is the bytes needed */
+    TURNIP_OUTSHORT = 18   /* TIDY, RUN, LINK: the printed text is longer than the output; the place is the bytes needed */
 };
 
 /* CHECK: whether a text is a plan, with the plan's cells and the length of its printed text. */
@@ -72,7 +74,8 @@ void turnip_run(const uint8_t *text, size_t text_length, uint32_t quota, uint32_
    counts are four bytes, lowest first. A word's rank is its number in the list, from 0. In a plan a token {%name} stands for the
    word of that name; a word may use the words before it. To RUN such a token is a name like any other. */
 
-/* The numbers of LINK are 3, 11 and 13 to 18 as above, but that the place of 17 is 0, and this one, which comes before them all. */
+/* The numbers of LINK are 3, 11 and 13 to 18 as above, but that the place of 17 is 0, and this one, which comes before them
+   all. */
 enum turnip_link_number {
     TURNIP_BADWORDS = 26 /* the list is not right; the place is the least rank at fault: 0 for a cut count, 256 for one over
                             256, the count for bytes behind the last word */

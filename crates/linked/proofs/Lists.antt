@@ -136,7 +136,7 @@ wrong-faulty : (older : List Word) (w : Word) → right standard older w ≡ fal
 unfolding right fits names
 wrong-faulty older w e =
     and-cases (fits standard older w) (not (used tokenLimit (stock-token w) (w ∷ older))) e
-    (λ h. and-cases (names standard w) (not (listed (stock-token w) older) && acceptable standard (w .text)) h
+    (λ h. and-cases (names standard (w .name)) (not (listed (stock-token w) older) && acceptable standard (w .text)) h
     (λ h. and-cases (leb 1 (length (w .name))) (allowed tokenLimit (stock-token w)) h
     (λ h. no-name (omega (arith, leb-false 1 (length (w .name)) h))) bad-name)
     (λ h. and-cases (not (listed (stock-token w) older)) (acceptable standard (w .text)) h

@@ -56,7 +56,7 @@ accepted-reads n {text} e =
     let t = accepted-text standard n text e in record { short = t .short; reads = read-faultless tokenLimit n text (t .reads) .2 }
 
 -- a linked plan has allowed tokens only
-pub linked-allowed : {list text : List ℕ} {ws : List Word} {p : Plan ℕ} → HasWords list ws → HasPlan text p → Allowed tokenLimit (linked-by ws p)
+linked-allowed : {list text : List ℕ} {ws : List Word} {p : Plan ℕ} → HasWords list ws → HasPlan text p → Allowed tokenLimit (linked-by ws p)
 linked-allowed {ws = ws} {p} has reads =
     allowed-link (stands-for tokenLimit ws) tokenLimit p (reads-known reads .fine) (stands-allowed standard ws (words-right has))
 
@@ -86,7 +86,7 @@ module _ {L M : Type 0} (f : L → M) where
   relabel-in-place (some q) l t p = relabel-then f q p
 
   -- and are linked to the same items
-  pub relabel-link : (stands : List ℕ → Option (Plan L)) (p : Plan L)
+  relabel-link : (stands : List ℕ → Option (Plan L)) (p : Plan L)
       → relabel f (link stands p) ≡ link (λ t. under (relabel f) (stands t)) (relabel f p)
   unfolding link relabel
   relabel-link stands end = refl

@@ -59,7 +59,7 @@ stands-allowed list starts (suc n) s t q e = go (same t (stock-token (word-of li
     go false h more = more t q h
 
 -- nothing is remembered yet
-pub weighed-nothing : (list starts : List ℕ) → WeightsKnown list starts (replicate 512 0)
+weighed-nothing : (list starts : List ℕ) → WeightsKnown list starts (replicate 512 0)
 weighed-nothing list starts r a b e = noted-nothing 512 r e
 
 placed-nothing : (list starts out : List ℕ) → WordsPlaced list starts (replicate 512 0) out 0

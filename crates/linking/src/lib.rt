@@ -18,6 +18,12 @@ use vetting::Vetted;
 use vetting::judge;
 use words::LinkAnswer;
 use words::LinkRefusal;
+use words::MOST;
+
+// A place for each word, and two numbers to remember of it.
+const STARTS: usize = MOST as usize;
+
+const NOTES: usize = 2 * STARTS;
 
 // What a text is found to be, however many cells it has.
 pub enum ReadOver {
@@ -54,7 +60,7 @@ fn link_readable(
     requires { ⌜ WordsKnown (now list) (now starts) count × Readable (now text) ⌝ }
     ensures { λ r. ⌜ LinkWrites (within standard (linked-text (now (list .entry)) (now (starts .entry)) count (now (text .entry)))) (now (output .entry)) r (now (output .exit)) ⌝ }
 {
-    let mut weights = [0u32; 512];
+    let mut weights = [0u32; NOTES];
     let weight = weigh(list, starts, text, count, &mut weights);
     if Cell::LIMIT < weight.cells as usize {
         return LinkAnswer::Refused(LinkRefusal::Overfull);
@@ -62,7 +68,7 @@ fn link_readable(
     if output.len() < weight.length as usize {
         return LinkAnswer::Refused(LinkRefusal::OutShort(weight.length));
     }
-    let mut places = [0u32; 512];
+    let mut places = [0u32; NOTES];
     write(list, starts, text, count, &weights, &mut places, output, 0);
     LinkAnswer::Linked {
         cells: weight.cells,
@@ -85,7 +91,7 @@ fn link_by(list: &[u8], starts: &[u32], count: u32, text: &[u8], output: &mut [u
 pub fn link(list: &[u8], text: &[u8], output: &mut [u8]) -> LinkAnswer
     ensures { λ r. ⌜ Links (now (list .entry)) (now (text .entry)) (now (output .entry)) r (now (output .exit)) ⌝ }
 {
-    let mut starts = [0u32; 256];
+    let mut starts = [0u32; STARTS];
     match judge(list, &mut starts) {
         Vetted::Bad(rank) => LinkAnswer::Refused(LinkRefusal::BadWords(rank)),
         Vetted::Words(count) => link_by(list, &starts, count, text, output),

@@ -15,10 +15,10 @@ pub struct Words {
 // No word here is longer, and no list has more of them.
 const LONGEST: usize = 1000;
 
-const MOST: u32 = 1000;
+const MANY: u32 = 1000;
 
 // Whether a word has room behind the bytes in use.
-fn fits(room: usize, used: usize, name: usize, text: usize) -> bool
+fn has_room(room: usize, used: usize, name: usize, text: usize) -> bool
     ensures { λ r. ⌜ (r ≡ true → (used + 8 + name + text ≤ room) × (name < 2 ^ 32) × (text < 2 ^ 32)) ⌝ }
 {
     if LONGEST < name {
@@ -47,10 +47,10 @@ pub fn add_word(list: &mut [u8], words: Words, name: &[u8], text: &[u8]) -> Word
 {
     let used = words.used;
     let count = words.count;
-    if MOST < count {
+    if MANY < count {
         return words;
     }
-    if fits(list.len(), used, name.len(), text.len()) {
+    if has_room(list.len(), used, name.len(), text.len()) {
         let behind = used + 4 + name.len();
         put_run(list, used, name);
         put_run(list, behind, text);

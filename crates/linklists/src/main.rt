@@ -1,7 +1,7 @@
 // Links texts by word lists, and writes a line for each that a reader can hold to request 6.
 //
-// A line has what the list and the text are; then the five numbers of the answer, the printed text or how long it is, and whether every
-// byte of the output past that text is as it was.
+// A line has what is tried, the list's words where they are few, and the text; then the five numbers of the answer, the printed text or
+// how long it is, and whether every byte of the output past that text is as it was.
 mod building;
 
 ghost use Prim.Native.Nat.{_≤_};
@@ -65,20 +65,38 @@ fn tell_link(list: &[u8], text: &[u8], output: &mut [u8]) {
     tell_rest(output, length);
 }
 
-// A line: what the case is, and what linking makes of it.
-fn tell(name: &[u8], list: &[u8], text: &[u8], output: &mut [u8]) {
-    say(name);
+// The rest of a line: the text, and what linking makes of it.
+fn tell_text(list: &[u8], text: &[u8], output: &mut [u8]) {
     say(b" | ");
     say(text);
     tell_link(list, text, output);
 }
 
-// .. of a list as it was built.
-fn tell_built(name: &[u8], list: &[u8], words: Words, text: &[u8], output: &mut [u8]) {
+// .. by a list as it was built.
+fn tell_built(list: &[u8], words: Words, text: &[u8], output: &mut [u8]) {
     let used = words.used;
     if used <= list.len() {
-        tell(name, &list[0..used], text, output);
+        tell_text(&list[0..used], text, output);
     }
+}
+
+// A line, for a list whose words are not told.
+fn tell(name: &[u8], list: &[u8], text: &[u8], output: &mut [u8]) {
+    say(name);
+    say(b" | -");
+    tell_text(list, text, output);
+}
+
+fn tell_grown(name: &[u8], list: &[u8], words: Words, text: &[u8], output: &mut [u8]) {
+    say(name);
+    say(b" | -");
+    tell_built(list, words, text, output);
+}
+
+fn tell_word(word: &[u8], meaning: &[u8]) {
+    say(word);
+    say(b" = ");
+    say(meaning);
 }
 
 // A list of one word.
@@ -90,9 +108,12 @@ fn tell_one(
     list: &mut [u8; LIST],
     output: &mut [u8; OUTPUT],
 ) {
+    say(name);
+    say(b" | ");
+    tell_word(word, meaning);
     let none = no_words(list);
     let words = add_word(list, none, word, meaning);
-    tell_built(name, list, words, text, output);
+    tell_built(list, words, text, output);
 }
 
 // A list of two.
@@ -106,10 +127,15 @@ fn tell_two(
     list: &mut [u8; LIST],
     output: &mut [u8; OUTPUT],
 ) {
+    say(name);
+    say(b" | ");
+    tell_word(first, meaning);
+    say(b", ");
+    tell_word(second, other);
     let none = no_words(list);
     let words = add_word(list, none, first, meaning);
     let both = add_word(list, words, second, other);
-    tell_built(name, list, both, text, output);
+    tell_built(list, both, text, output);
 }
 
 // What linking puts, and what it leaves.
@@ -135,9 +161,11 @@ fn tell_linked(list: &mut [u8; LIST], output: &mut [u8; OUTPUT]) {
 fn tell_short(list: &mut [u8; LIST], output: &mut [u8])
     requires { ⌜ 2 ≤ length (now output) ⌝ }
 {
+    say(b"output too short | ");
+    tell_word(b"s", b"{x}");
     let none = no_words(list);
     let words = add_word(list, none, b"s", b"{x}");
-    tell_built(b"output too short", list, words, b"{%s}", &mut output[0..2]);
+    tell_built(list, words, b"{%s}", &mut output[0..2]);
 }
 
 // What stands behind a list that is right: the text's fault, and too short an output.
@@ -232,9 +260,9 @@ fn tell_doubled(first: &[u8], list: &mut [u8; LIST], output: &mut [u8; OUTPUT]) 
     say(b"256 words, each twice the one before it, the first of them `");
     say(first);
     say(b"`\n");
-    tell_built(b"doubled 12 times", list, words, b"{%012}", output);
-    tell_built(b"and one more", list, words, b"{%012}{%000}", output);
-    tell_built(b"doubled 255 times", list, words, b"{%255}", output);
+    tell_grown(b"doubled 12 times", list, words, b"{%012}", output);
+    tell_grown(b"and one more", list, words, b"{%012}{%000}", output);
+    tell_grown(b"doubled 255 times", list, words, b"{%255}", output);
 }
 
 // 256 words, each in a block of the next.
@@ -242,11 +270,11 @@ fn tell_chained(list: &mut [u8; LIST], output: &mut [u8; OUTPUT]) {
     let mut text = [b'[', b'{', b'%', b'0', b'0', b'0', b'}', b']'];
     let mut name = [b'0', b'0', b'0'];
     let words = grow(list, &mut name, b"a", &mut text, 3, 3);
-    tell_built(b"255 blocks", list, words, b"{%255}", output);
+    tell_grown(b"255 blocks", list, words, b"{%255}", output);
 }
 
 fn tell_all(list: &mut [u8; LIST], output: &mut [u8; OUTPUT]) {
-    say(b"case | text | number steps cells length place | printed | afterwards\n");
+    say(b"case | words | text | number steps cells length place | printed | afterwards\n");
     tell_linked(list, output);
     tell_refused(list, output);
     tell_counts(output);

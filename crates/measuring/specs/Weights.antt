@@ -4,6 +4,7 @@ use Prim.Native.Nat.{ℕ, _+_, _*_, _≤_, _<_, min}
 use mathlib.Core.Path.{_≡_}
 use mathlib.Core.List.{List}
 use lib.ListN.{length}
+use Rattle.kinds.specs.Limits.{cellLimit, tokenLimit}
 use Rattle.plan.specs.Plan.{Plan, cells, print}
 use Rattle.plan.specs.Pieces.{Piece, in-a-row, pieces, starts}
 use Rattle.pieces.specs.declared.Piece.{Piece as CodePiece}
@@ -18,10 +19,10 @@ use Rattle.measuring.specs.declared.Weight.{Weight}
 
 -- one more than a plan may have, and than its printed text can have
 abbrev pub pastCells : ℕ
-pastCells = 4097
+pastCells = cellLimit + 1
 
 abbrev pub pastBytes : ℕ
-pastBytes = 262145
+pastBytes = tokenLimit * cellLimit + 1
 
 abbrev pub weighing : (cells bytes : ℕ) → Weight
 weighing cells bytes = record { cells = min cells pastCells; length = min bytes pastBytes }

@@ -11,6 +11,8 @@ ghost use Rattle.measuring.specs.Weights.{AtHandTells, CanWeigh, Weights
 use items::Cursor;
 use items::NextPiece;
 use items::next;
+use kinds::Cell;
+use kinds::Token;
 use pieces::Piece;
 use shelf::Named;
 use shelf::Noted;
@@ -20,9 +22,9 @@ use shelf::recall;
 use shelf::text_at;
 
 // One more than a plan may have, and than its printed text can have.
-pub const PAST_CELLS: u32 = 4097;
+pub const PAST_CELLS: u32 = Cell::LIMIT as u32 + 1;
 
-pub const PAST_BYTES: u32 = 262_145;
+pub const PAST_BYTES: u32 = (Token::LIMIT * Cell::LIMIT) as u32 + 1;
 
 // The cells of a plan and the bytes of its printed text, up to these two.
 pub struct Weight {

@@ -35,7 +35,7 @@ module _ (list starts : List ℕ) where
       go true h g more = never cc
       go false h g more = more g
 
-  pub seek-listed : (n : ℕ) (t : List ℕ) {r : ℕ} → seek list starts n t ≡ Listed r → (r < n) × (stands-to list starts n t ≡ some (linked-word list starts r))
+  seek-listed : (n : ℕ) (t : List ℕ) {r : ℕ} → seek list starts n t ≡ Listed r → (r < n) × (stands-to list starts n t ≡ some (linked-word list starts r))
   unfolding seek words-to stands-for linked-word linked-text
   seek-listed zero t e = never cc
   seek-listed (suc n) t {r} e = go (same t (stock-token (word-of list starts n))) e (seek-listed n t)

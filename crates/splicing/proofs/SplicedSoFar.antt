@@ -134,14 +134,11 @@ module _ {list starts text : List ℕ} {n : ℕ} {weights places₀ out₀ : Lis
       pub spliced-room : end + piece-length k ≤ length out
       spliced-room = omega (arith, roomy stays .0, ap length itself, size)
 
-      pub spliced-small : end + piece-length k ≤ printedLimit
-      spliced-small = omega (arith, roomy stays .1, ap length itself, size)
-
-      pub spliced-itself : {len : ℕ} (out′ : List ℕ) → out′ ≡ put-at out end (piece-bytes text k) → len ≡ piece-length k
-          → SplicedSoFar list starts text n weights places₀ out₀ put places out′ (end + len) rest
-      spliced-itself {len} out′ e l =
-          let same : end + len ≡ end + length (piece-bytes text k) = omega (arith, size) in
-          on stays (piece-bytes text k) places out′ (end + len) itself e same
+      pub spliced-itself : {end′ : ℕ} (out′ : List ℕ) → end′ ≡ end + piece-length k → out′ ≡ put-at out end (piece-bytes text k)
+          → SplicedSoFar list starts text n weights places₀ out₀ put places out′ end′ rest
+      spliced-itself {end′} out′ l e =
+          let same : end′ ≡ end + length (piece-bytes text k) = omega (arith, size) in
+          on stays (piece-bytes text k) places out′ end′ itself e same
           (subst (λ m. WordsPlaced list starts places out′ m) (sym same) (kept stays (piece-bytes text k) out′ itself e)) refl
 
     -- bytes that stand in the output
@@ -152,14 +149,11 @@ module _ {list starts text : List ℕ} {n : ℕ} {weights places₀ out₀ : Lis
       pub copied-room : end + len ≤ length out
       copied-room = omega (arith, roomy refl .0, long-so)
 
-      pub copied-small : end + len ≤ printedLimit
-      copied-small = omega (arith, roomy refl .1, long-so)
-
-      pub spliced-copy : (out′ : List ℕ) → out′ ≡ put-at out end (take len (drop from out))
-          → SplicedSoFar list starts text n weights places₀ out₀ put places out′ (end + len) rest
-      spliced-copy out′ e =
-          let same : end + len ≡ end + length (take len (drop from out)) = omega (arith, long-so, ap length (stands .1)) in
-          on refl (take len (drop from out)) places out′ (end + len) (stands .1) e same
+      pub spliced-copy : {end′ : ℕ} (out′ : List ℕ) → end′ ≡ end + len → out′ ≡ put-at out end (take len (drop from out))
+          → SplicedSoFar list starts text n weights places₀ out₀ put places out′ end′ rest
+      spliced-copy {end′} out′ l e =
+          let same : end′ ≡ end + length (take len (drop from out)) = omega (arith, long-so, ap length (stands .1)) in
+          on refl (take len (drop from out)) places out′ end′ (stands .1) e same
           (subst (λ m. WordsPlaced list starts places out′ m) (sym same) (kept refl (take len (drop from out)) out′ (stands .1) e)) refl
 
     -- a word that was not written yet

@@ -4,6 +4,7 @@ use Prim.Native.Nat.{ℕ, _+_, _*_, _≤_, _<_}
 use mathlib.Core.Path.{_≡_}
 use mathlib.Core.List.{List, [], _∷_}
 use lib.ListN.{length, take, drop}
+use Rattle.kinds.specs.Limits.{cellLimit, tokenLimit}
 use Rattle.plan.specs.Plan.{print}
 use Rattle.plan.specs.Pieces.{Piece, in-a-row, pieces}
 use Rattle.words.specs.Places.{put-in}
@@ -16,7 +17,7 @@ use Rattle.splicing.specs.declared.ToPut.the-variants.{Itself, Copy, Wor
 
 -- the most bytes that the printed text of a plan can have
 abbrev pub printedLimit : ℕ
-printedLimit = 262144
+printedLimit = tokenLimit * cellLimit
 
 -- bytes that stand in the output before a place
 abbrev pub StandsBefore : (out : List ℕ) → (put from len : ℕ) → List ℕ → Type 0

@@ -8,7 +8,7 @@ ghost use mathlib.Core.List.{List, []};
 ghost use lib.ListN.{length, take, drop};
 ghost use Rattle.plan.specs.Pieces.{Piece as PlanPiece};
 ghost use Rattle.plan.specs.Plan.{print};
-ghost use Rattle.pieces.specs.Written.{Is, put-at};
+ghost use Rattle.pieces.specs.Written.{InText, Is, piece-bytes, piece-length, put-at};
 ghost use Rattle.shelf.specs.Shelf.{PieceStands, Shelved, linked-text, linked-word};
 ghost use Rattle.measuring.specs.Weights.{WeightsKnown};
 ghost use Rattle.splicing.specs.Splicing.{WordsPlaced, ToPutTells, WordTells, Writable};
@@ -31,16 +31,28 @@ pub enum ToPut {
     Word(u32),
 }
 
-// Copies bytes of the output to a place behind them.
-fn copy_on(out: &mut [u8], from: usize, len: usize, put: usize)
+// Writes a piece, and gives the place behind it.
+fn put_itself(text: &[u8], piece: Piece, out: &mut [u8], put: usize) -> usize
+    requires { ⌜ InText (now text) piece × (put + piece-length piece ≤ length (now out)) ⌝ }
+    ensures behind { λ r. ⌜ r ≡ put + piece-length piece ⌝ }
+    ensures written { λ r. ⌜ now (out .exit) ≡ put-at (now (out .entry)) put (piece-bytes (now (text .entry)) piece) ⌝ }
+{
+    put_piece(text, piece, out, put);
+    put + piece.length() as usize
+}
+
+// Copies bytes of the output to a place behind them, and gives the place behind the copy.
+fn copy_on(out: &mut [u8], from: usize, len: usize, put: usize) -> usize
     requires { ⌜ (from + len ≤ put) × (put + len ≤ length (now out)) ⌝ }
-    ensures { λ _. ⌜ now (out .exit) ≡ put-at (now (out .entry)) put (take len (drop from (now (out .entry)))) ⌝ }
+    ensures behind { λ r. ⌜ r ≡ put + len ⌝ }
+    ensures written { λ r. ⌜ now (out .exit) ≡ put-at (now (out .entry)) put (take len (drop from (now (out .entry)))) ⌝ }
 {
     let mut done = 0;
     while done < len {
         out[put + done] = out[from + done];
         done += 1;
     }
+    put + len
 }
 
 // Whether a word was weighed and links to nothing.
@@ -115,14 +127,8 @@ pub fn write(
             NextPiece::End => return end,
             NextPiece::Piece { piece, at, rest } => {
                 match put_for(list, starts, text, below, weights, places, piece) {
-                    ToPut::Itself => {
-                        put_piece(text, piece, out, end);
-                        end += piece.length() as usize;
-                    }
-                    ToPut::Copy { from, len } => {
-                        copy_on(out, from, len, end);
-                        end += len;
-                    }
+                    ToPut::Itself => end = put_itself(text, piece, out, end),
+                    ToPut::Copy { from, len } => end = copy_on(out, from, len, end),
                     ToPut::Word(word) => {
                         let place = starts[word as usize] as usize;
                         let used = text_at(list, place);

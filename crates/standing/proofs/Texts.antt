@@ -10,65 +10,27 @@ use lib.ListN.{length}
 use Rattle.kinds.specs.Limits.{cellLimit, tokenLimit}
 use Rattle.plan.specs.Plan.{Plan, print}
 use Rattle.plan.specs.Pieces.{Shows, pieces}
-use Rattle.plan.specs.Reading.{Reading, PLAN, REFUSED}
 use Rattle.plan.specs.Rewriting.{finished}
-use Rattle.plan.specs.Services.{accept, answer-of, as-read, check, reads, standard}
+use Rattle.plan.specs.Services.{standard}
 use Rattle.plan.specs.declared.Answer.{Answer}
-use Rattle.plan.specs.declared.Answer.the-variants.{Ran, Read, Refused}
-use Rattle.plan.specs.declared.Ending.{Ending}
+use Rattle.plan.specs.declared.Answer.the-variants.{Read, Refused}
 use Rattle.plan.specs.declared.Refusal.{Refusal}
 use Rattle.plan.proofs.Faultless.{without-blanks-same}
 use Rattle.plan.proofs.ReadBack.{read-accepted}
 use Rattle.plan.proofs.Slots.{accepted-text}
-use Rattle.plan.proofs.Tests.{never}
 use Rattle.filing.specs.Rules.{finished-as, is-finished, is-printed, printed-as}
 use Rattle.stored.proofs.Same.{same-false, same-true}
 use Rattle.finished.specs.Pieces.{ShowsPlan}
 use Rattle.services.specs.Calls.{Checks}
+use Rattle.services.proofs.CheckTold.{told-accepted, told-refused}
 
--- the reading that CHECK's answer tells
 module _ (text : List ℕ) where
-  told : (r : Answer) → Checks text r → r ≡ answer-of (as-read (accept standard cellLimit text))
-  unfolding check reads
-  told r c = c .answer
-
-  -- an accepted text
-  record CheckAccepted (size : ℕ) : Type 0 where
-    plan : Plan ℕ
-    read-as : accept standard cellLimit text ≡ PLAN plan
-    long : length (print plan) ≡ size
-
-  accepted : {r : Answer} {c l : ℕ} → Checks text r → r ≡ Read c l → CheckAccepted l
-  unfolding as-read answer-of
-  accepted {r} {c} {l} call e = go (accept standard cellLimit text) refl (sym (told r call) ∙ e)
-    where
-      go : (x : Reading) → accept standard cellLimit text ≡ x → answer-of (as-read x) ≡ Read c l → CheckAccepted l
-      go (PLAN p) a h = record { plan = p; read-as = a; long = let z : length (print p) ≡ l = cc in z }
-      go (REFUSED q) a h = never cc
-
-  refused : {r : Answer} {q : Refusal} → Checks text r → r ≡ Refused q → (z : Refusal) × (accept standard cellLimit text ≡ REFUSED z)
-  unfolding as-read answer-of
-  refused {r} {q} call e = go (accept standard cellLimit text) refl (sym (told r call) ∙ e)
-    where
-      go : (x : Reading) → accept standard cellLimit text ≡ x → answer-of (as-read x) ≡ Refused q → (z : Refusal) × (accept standard cellLimit text ≡ REFUSED z)
-      go (PLAN p) a h = never cc
-      go (REFUSED z) a h = (z, a)
-
-  -- CHECK runs nothing
-  pub no-run : {A : Type 0} {r : Answer} {e : Ending} {s c l : ℕ} → Checks text r → r ≡ Ran e s c l → A
-  unfolding as-read answer-of
-  no-run {A} {r} {e} {s} {c} {l} call h = go (accept standard cellLimit text) (sym (told r call) ∙ h)
-    where
-      go : (x : Reading) → answer-of (as-read x) ≡ Ran e s c l → A
-      go (PLAN p) g = never cc
-      go (REFUSED z) g = never cc
-
   module _ {r : Answer} (call : Checks text r) where
     module _ {c l : ℕ} (is : r ≡ Read c l) where
       printed-whole : l ≡ length text → true ≡ is-printed standard text
       unfolding is-printed printed-as
       printed-whole e =
-          let a = accepted call is in
+          let a = told-accepted text call is in
           let back = read-accepted tokenLimit cellLimit text (accepted-text standard cellLimit text (a .read-as) .reads) in
           let all = without-blanks-same false text (ap length (sym (back .printed)) ∙ a .long ∙ e) in
           sym (ap (printed-as text) (a .read-as) ∙ same-true text (print (a .plan)) (sym all ∙ sym (back .printed)))
@@ -76,7 +38,7 @@ module _ (text : List ℕ) where
       printed-not : l ≢ length text → false ≡ is-printed standard text
       unfolding is-printed printed-as
       printed-not h =
-          let a = accepted call is in
+          let a = told-accepted text call is in
           sym (ap (printed-as text) (a .read-as) ∙ same-false text (print (a .plan)) (λ e. h (sym (a .long) ∙ ap length (sym e))))
 
       pub printed-told : eqb l (length text) ≡ is-printed standard text
@@ -88,20 +50,20 @@ module _ (text : List ℕ) where
 
       pub finished-ready : ShowsPlan text
       finished-ready =
-          let a = accepted call is in
+          let a = told-accepted text call is in
           let ok = accepted-text standard cellLimit text (a .read-as) in
           record { short = ok .short; plan = a .plan; shows = read-accepted tokenLimit cellLimit text (ok .reads) .shows }
 
       pub finished-told : {t : Bool} → ((p : Plan ℕ) → Shows tokenLimit 0 text (pieces p) → t ≡ finished p) → t ≡ is-finished standard text
       unfolding is-finished finished-as
       finished-told h =
-          let a = accepted call is in
+          let a = told-accepted text call is in
           h (a .plan) (read-accepted tokenLimit cellLimit text (accepted-text standard cellLimit text (a .read-as) .reads) .shows) ∙ sym (ap finished-as (a .read-as))
 
     pub printed-refused : {q : Refusal} → r ≡ Refused q → false ≡ is-printed standard text
     unfolding is-printed printed-as
-    printed-refused e = sym (ap (printed-as text) (refused call e .1))
+    printed-refused e = sym (ap (printed-as text) (told-refused text call e .1))
 
     pub finished-refused : {q : Refusal} → r ≡ Refused q → false ≡ is-finished standard text
     unfolding is-finished finished-as
-    finished-refused e = sym (ap finished-as (refused call e .1))
+    finished-refused e = sym (ap finished-as (told-refused text call e .1))

@@ -29,7 +29,7 @@ module _ (list starts : List ℕ) where
   next-earliest n {before} e = rw (many list starts n, e) refl
 
   -- it is the rank below which none is used early, and that is used early itself if it is one of the ranks
-  pub earliest-is : (n e : ℕ) → e ≤ n → ((u : ℕ) → u < e → early u ≡ false) → (e < n → early e ≡ true)
+  earliest-is : (n e : ℕ) → e ≤ n → ((u : ℕ) → u < e → early u ≡ false) → (e < n → early e ≡ true)
       → earliest tokenLimit (words-to list starts n) ≡ e
   unfolding earliest words-to
   earliest-is zero e h none found = let z : 0 ≡ e = omega arith in z

@@ -23,7 +23,7 @@ use Rattle.words.specs.Stock.{acceptable, fits, names, word}
 use Rattle.words.proofs.Listing.{acceptable-plan}
 use Rattle.shelf.specs.Shelf.{Readable}
 use Rattle.shelf.proofs.Words.{word-whole}
-use Rattle.vetting.specs.Vetting.{FitThere, Fitting, fit-front, fitting, is-name, is-new-name, next-fitting}
+use Rattle.vetting.specs.Vetting.{FitThere, Fitting, fit-front, fitting, is-new-name, next-fitting}
 
 -- One word, judged by itself.
 
@@ -56,7 +56,7 @@ module _ (list : List ℕ) (older : List Word) (at : ℕ) where
     -- a word fits when its name is new and its text acceptable
     fit-parts : fit-front standard older (word (drop at list)) ≡ (is-new-name older name && acceptable standard text)
     unfolding fit-front fits names
-    fit-parts = ap (fit-front standard older) there ∙ moved (is-name name) (not (listed (percent ∷ name) older)) (acceptable standard text)
+    fit-parts = ap (fit-front standard older) there ∙ moved (names standard name) (not (listed (percent ∷ name) older)) (acceptable standard text)
       where
         moved : (a b c : Bool) → (a && (b && c)) ≡ ((a && b) && c)
         moved true b c = refl
@@ -106,7 +106,7 @@ pub record FitWord (older : List Word) (w : Word) : Type 0 where
 pub fit-word : (older : List Word) (w : Word) → fits standard older w ≡ true → FitWord older w
 unfolding fits names
 fit-word older w e =
-    let (named, more) = and-true (names standard w) (not (listed (stock-token w) older) && acceptable standard (w .text)) e in
+    let (named, more) = and-true (names standard (w .name)) (not (listed (stock-token w) older) && acceptable standard (w .text)) e in
     let (some, fine) = and-true (leb 1 (length (w .name))) (allowed tokenLimit (stock-token w)) named in
     let (new, read) = and-true (not (listed (stock-token w) older)) (acceptable standard (w .text)) more in
     let t = acceptable-plan standard (w .text) read in

@@ -90,7 +90,7 @@ module _ (lim : Limits) where
   abbrev pub Told : (more : ℕ) → (older : List Word) → List ℕ → Type 0
   Told more older bs = stocked lim more older bs ≡ verdict (lim .token) (fitting lim more older bs)
 
-  pub stocked-fitting : (more : ℕ) (older : List Word) (bs : List ℕ) → Clean older → Told more older bs
+  stocked-fitting : (more : ℕ) (older : List Word) (bs : List ℕ) → Clean older → Told more older bs
   unfolding stocked fitting next-word next-fitting right
   stocked-fitting zero older [] clean = sym (ended older true clean)
   stocked-fitting zero older (b ∷ bs) clean = sym (ended older false clean)

@@ -1,4 +1,4 @@
--- How the code judges a word list: first the words that are right by themselves, up to the first that is not; then the least of these
+-- How the code judges a word list: first the words that are right but for uses, up to the first that is not; then the least of these
 -- that a word of the same or a smaller rank uses. Each text is walked a fixed number of times.
 use Prim.Native.Nat.{ℕ, zero, suc, _≤_, _+_}
 use mathlib.Core.Path.{_≡_}
@@ -12,7 +12,7 @@ use Rattle.plan.specs.Services.{Limits, standard}
 use Rattle.plan.specs.Token.{allowed}
 use Rattle.stored.specs.Counted.{AtFront, CUT, FRONT}
 use Rattle.words.specs.Linking.{Word, listed, percent, stock-token, used}
-use Rattle.words.specs.Stock.{FAULT, Stock, WORDS, fits, word, wordLimit}
+use Rattle.words.specs.Stock.{FAULT, Stock, WORDS, fits, names, word, wordLimit}
 use Rattle.shelf.specs.Shelf.{Shelved, seek-piece, word-of, words-to}
 use Rattle.shelf.specs.declared.Named.{Named}
 use Rattle.shelf.specs.declared.Named.the-variants.{Unlisted, Listed}
@@ -43,13 +43,9 @@ earliest limit (w ∷ older) =
     let before = earliest limit older in
     cond (ltb before (length older)) before (cond (used limit (stock-token w) (w ∷ older)) (length older) (suc (length older)))
 
--- a name by itself: not empty, and with `%` before it an allowed token
-abbrev pub is-name : List ℕ → Bool
-is-name name = leb 1 (length name) && allowed tokenLimit (percent ∷ name)
-
--- .. and that none of these words has
+-- a name that none of these words has
 abbrev pub is-new-name : (older : List Word) → List ℕ → Bool
-is-new-name older name = is-name name && not (listed (percent ∷ name) older)
+is-new-name older name = names standard name && not (listed (percent ∷ name) older)
 
 -- the words of the ranks below n have names of their own
 abbrev pub OwnNames : (list starts : List ℕ) → (n : ℕ) → Type 0
@@ -65,7 +61,7 @@ unfoldable pub lowered : {L : Type 0} → (list starts : List ℕ) → (rank bou
 lowered list starts rank bound [] = bound
 lowered list starts rank bound (x ∷ ps) = lowered list starts rank (lower (seek-piece list starts bound x) rank bound) ps
 
--- one word judged by itself, at a place, behind words that fit
+-- one word judged by itself and beside the names before it, at a place, behind words that fit
 pub record FitThere (list : List ℕ) (older : List Word) (at next : ℕ) : Type 0 where
   pub which : Word
   pub there : word (drop at list) ≡ FRONT which (drop next list)

@@ -1,6 +1,6 @@
-// Whether a word list is right, and else the least rank at fault. Each word is judged by itself first, up to the first that is not right;
-// then the texts of these are walked once, and each token is asked which word it names, so that nothing grows with the square of
-// the list's bytes.
+// Whether a word list is right, and else the least rank at fault. Each word is judged by itself and beside the names before it, up to the
+// first that is not right; then the texts of these are walked once, and each token is asked which word it names, so that nothing grows
+// with the square of the list's bytes.
 ghost use mathlib.Core.Path.{_≡_};
 ghost use mathlib.Core.List.{[]};
 ghost use Prim.Native.Nat.{_≤_};
@@ -10,9 +10,9 @@ ghost use Rattle.plan.specs.Pieces.{pieces};
 ghost use Rattle.plan.specs.Services.{standard};
 ghost use Rattle.plan.specs.Token.{all-permitted};
 ghost use Rattle.words.specs.Linking.{plan-of};
-ghost use Rattle.words.specs.Stock.{acceptable, stock, wordLimit};
+ghost use Rattle.words.specs.Stock.{acceptable, names, stock, wordLimit};
 ghost use Rattle.shelf.specs.Shelf.{Readable, Shelved, words-to};
-ghost use Rattle.vetting.specs.Vetting.{EndTells, VettedShelved, OwnNames, earliest, fitting, is-name, is-new-name, vetted-told, lower, lowered, shelf-told};
+ghost use Rattle.vetting.specs.Vetting.{EndTells, VettedShelved, OwnNames, earliest, fitting, is-new-name, vetted-told, lower, lowered, shelf-told};
 use items::Cursor;
 use items::NextPiece;
 use items::next;
@@ -38,7 +38,7 @@ pub enum Vetted {
     Words(u32),
 }
 
-// One word judged by itself: where the next one begins, if it fits.
+// One word judged by itself and beside the names before it: where the next one begins, if it fits.
 pub enum WordEnd {
     Unfit,
     Fit(usize),
@@ -69,7 +69,7 @@ fn are_permitted(name: &[u8]) -> bool
 
 // A name is not empty, and with `%` before it makes an allowed token.
 fn is_name(name: &[u8]) -> bool
-    ensures { λ r. ⌜ r ≡ is-name (now (name .entry)) ⌝ }
+    ensures { λ r. ⌜ r ≡ names standard (now (name .entry)) ⌝ }
 {
     if name.len() == 0 {
         return false;
@@ -110,7 +110,7 @@ fn is_new_name(list: &[u8], starts: &[u32], rank: u32, name: &[u8]) -> bool
     }
 }
 
-// Judges the word of a rank, which begins at a place, by itself.
+// Judges the word of a rank, which begins at a place, by itself and beside the names before it.
 fn judge_word(list: &[u8], starts: &[u32], rank: u32, at: usize) -> WordEnd
     requires { ⌜ Shelved (now list) (now starts) rank ⌝ }
     ensures { λ r. ⌜ EndTells (now (list .entry)) (words-to (now (list .entry)) (now (starts .entry)) rank) at r ⌝ }

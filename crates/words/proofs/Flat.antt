@@ -12,7 +12,7 @@ use Rattle.words.specs.Places.{linked-pieces, put-for, put-in}
 
 module _ {L : Type 0} (stands : List ℕ → Option (Plan L)) where
   -- a part of a row is linked by itself
-  pub linked-append : (xs ys : List (Piece L)) → linked-pieces stands (xs ++ ys) ≡ linked-pieces stands xs ++ linked-pieces stands ys
+  linked-append : (xs ys : List (Piece L)) → linked-pieces stands (xs ++ ys) ≡ linked-pieces stands xs ++ linked-pieces stands ys
   unfolding linked-pieces
   linked-append [] ys = refl
   linked-append (x ∷ xs) ys = rw (linked-append xs ys, append-assoc)

@@ -19,7 +19,7 @@ neither false b e = (refl, e)
 
 module _ {L : Type 0} where
   -- a token stands in one sequence then another if it stands in either
-  pub holds-then : (t : List ℕ) (p q : Plan L) → holds t (p then q) ≡ (holds t p || holds t q)
+  holds-then : (t : List ℕ) (p q : Plan L) → holds t (p then q) ≡ (holds t p || holds t q)
   unfolding holds _then_
   holds-then t end q = refl
   holds-then t (operator l o p) q = holds-then t p q
@@ -92,7 +92,3 @@ module _ {L : Type 0} (stands : List ℕ → Option (Plan L)) where
   allowed-link limit (operator l o p) h put = allowed-link limit p h put
   allowed-link limit (token l t p) h put = allowed-in-place limit (stands t) l t (link stands p) (h .0) (put t) (allowed-link limit p (h .1) put)
   allowed-link limit (block l b p) h put = (allowed-link limit b (h .0) put, allowed-link limit p (h .1) put)
-
--- with no words a plan stays as it is
-pub link-nothing : {L : Type 0} (p : Plan L) → link (λ t. none) p ≡ p
-link-nothing p = link-unlisted (λ t. none) p (λ t h. refl)

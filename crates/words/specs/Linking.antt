@@ -19,7 +19,7 @@ percent = 37
 abbrev pub stock-token : Word → List ℕ
 stock-token w = percent ∷ w .name
 
--- the plan that a text reads as, however many cells it has; a text with a fault reads as none
+-- the plan that a text reads as, however many cells it has; for a text with a fault, the empty plan
 unfoldable pub plan-in : Reading → Plan ℕ
 plan-in (PLAN p) = p
 plan-in (REFUSED r) = end

@@ -8,7 +8,7 @@ use Rattle.plan.specs.Reading.{Reading, PLAN, REFUSED}
 use Rattle.plan.specs.Services.{Limits, accept}
 use Rattle.plan.specs.Token.{allowed}
 use Rattle.stored.specs.Counted.{AtFront, CUT, FRONT, counted, number, then-read}
-use Rattle.words.specs.Linking.{Word, listed, stock-token, used}
+use Rattle.words.specs.Linking.{Word, listed, percent, stock-token, used}
 
 -- no list has more words
 abbrev pub wordLimit : ℕ
@@ -26,12 +26,12 @@ unfoldable pub acceptable : Limits → List ℕ → Bool
 acceptable lim text = is-read (accept lim (lim .cells) text)
 
 -- a name is not empty and makes an allowed token
-unfoldable pub names : Limits → Word → Bool
-names lim w = leb 1 (length (w .name)) && allowed (lim .token) (stock-token w)
+unfoldable pub names : Limits → (name : List ℕ) → Bool
+names lim name = leb 1 (length name) && allowed (lim .token) (percent ∷ name)
 
--- a word that is right by itself and unlike the words before it
+-- a word that is right by itself and has a name of its own
 unfoldable pub fits : Limits → (older : List Word) → Word → Bool
-fits lim older w = names lim w && (not (listed (stock-token w) older) && acceptable lim (w .text))
+fits lim older w = names lim (w .name) && (not (listed (stock-token w) older) && acceptable lim (w .text))
 
 -- .. and that no word up to itself uses
 unfoldable pub right : Limits → (older : List Word) → Word → Bool

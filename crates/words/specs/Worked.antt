@@ -1,6 +1,6 @@
 -- Lists and texts to try, and what linking answers: a word used twice, in a block, of another word, one that is not listed, one that is
--- empty, each kind of fault with its rank, and each refusal that comes after the list's. Plans may have 4 cells here, so that a small
--- list is too large.
+-- empty, each kind of fault with its rank, and each refusal that comes after the list's but 11. Plans may have 4 cells here, so that a
+-- small one is too large.
 use Prim.Native.Nat.{ℕ}
 use Prim.Native.String.{String}
 use mathlib.Core.List.{List, [], _∷_, _++_}
@@ -50,6 +50,9 @@ worked-links =
     linked 2 (entry "t" "{%s}{%s}" ∷ entry "s" "abc" ∷ []) "{%s}" 3 3 "abc" ∷
     refused (listing 1 (entry "s" "abc" ∷ [])) "{%s}{%s}" 20 17 0 ∷
     refused (listing 1 (entry "s" "abc" ∷ [])) "{%s}{%s}]" 20 15 8 ∷
+    refused (listing 1 (entry "s" "abc" ∷ [])) "{%s}x" 20 13 4 ∷
+    refused (listing 1 (entry "s" "abc" ∷ [])) "{%s}{}" 20 14 4 ∷
+    refused (listing 1 (entry "s" "abc" ∷ [])) "[{%s}" 20 16 5 ∷
     refused (listing 1 (entry "s" "{x}" ∷ [])) "{%s}" 2 18 3 ∷
     bad-list 257 [] 256 ∷
     refused (1 ∷ 0 ∷ 0 ∷ []) "]" 20 26 0 ∷

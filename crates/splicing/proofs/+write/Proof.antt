@@ -8,19 +8,18 @@ use Rattle.items.specs.Walk.{Passed}
 use Rattle.shelf.proofs.Standing.{linked-less, linked-over, linked-passed, linked-stands}
 use Rattle.splicing.specs.Splicing.{ToPutTells}
 use Rattle.splicing.proofs.PutFor.{tells-copy, tells-itself, tells-word}
-use Rattle.splicing.proofs.SplicedSoFar.{SplicedSoFar, copied-room, copied-small, spliced-behind, spliced-behind-small, spliced-copy, spliced-end, spliced-first, spliced-in-text, spliced-itself, spliced-long, spliced-lower, spliced-room, spliced-small, spliced-word, spliced-written}
+use Rattle.splicing.proofs.SplicedSoFar.{SplicedSoFar, copied-room, spliced-behind, spliced-behind-small, spliced-copy, spliced-end, spliced-first, spliced-in-text, spliced-itself, spliced-long, spliced-lower, spliced-room, spliced-word, spliced-written}
 use borrow.Fn.Kinds.{In}
 use borrow.Fn.PlainCycle.{Measures, is, falls, and}
 use Rattle.splicing.proofs.write.Reads as write
 use Rattle.splicing.proofs.write.Kinds as write-kinds
 use Rattle.splicing.proofs.+write.Lts-write as write-lts
 use Rattle.items.proofs.next.Reads as next-reads
-use Rattle.pieces.proofs.Piece.length.Reads as length-reads
-use Rattle.pieces.proofs.put_piece.Reads as put-piece-reads
 use Rattle.shelf.proofs.note.Reads as note-reads
 use Rattle.shelf.proofs.text_at.Reads as text-at-reads
 use Rattle.splicing.proofs.copy_on.Reads as copy-on-reads
 use Rattle.splicing.proofs.put_for.Reads as put-for-reads
+use Rattle.splicing.proofs.put_itself.Reads as put-itself-reads
 use Rattle.splicing.proofs.+write.{statement}
 use Rattle.splicing.proofs.+write.Tie.{close}
 
@@ -35,7 +34,7 @@ write-below t = and 6 write-kinds.ps (falls 6 write-kinds.ps _<_ μ-write t) wri
 
 -- what the calls ask and tell
 abbrev claims : ℕ → write-lts.Claims
-claims t = (next-reads.Asked, next-reads.Learnt, put-for-reads.Asked, put-for-reads.Learnt, put-piece-reads.Asked, put-piece-reads.Learnt, length-reads.Asked, length-reads.Learnt, copy-on-reads.Asked, copy-on-reads.Learnt, text-at-reads.Asked, text-at-reads.Learnt, write-below t, write.Post, note-reads.Asked, note-reads.Learnt)
+claims t = (next-reads.Asked, next-reads.Learnt, put-for-reads.Asked, put-for-reads.Learnt, put-itself-reads.Asked, put-itself-reads.Learnt, copy-on-reads.Asked, copy-on-reads.Learnt, text-at-reads.Asked, text-at-reads.Learnt, write-below t, write.Post, note-reads.Asked, note-reads.Learnt)
 
 abbrev write-Inv-loop : write-lts.InvT-loop
 write-Inv-loop list starts text below weights places₀ out₀ put end₀ cursor₀ places out end cursor =
@@ -92,23 +91,11 @@ write-put-for-requires t c κs = let l = c .before .before .before .before .befo
 write-enum-told-2 : (t : ℕ) → write-lts.Need-enum-told-2 (claims t) (write-at t) write.Post write-Inv-loop write-μ-loop
 write-enum-told-2 t c = search needs
 
-write-put-piece-requires : (t : ℕ) → write-lts.Need-put-piece-requires (claims t) (write-at t) write.Post write-Inv-loop write-μ-loop
-write-put-piece-requires t c κs = let f = c .before .before .before in
+write-put-itself-requires : (t : ℕ) → write-lts.Need-put-itself-requires (claims t) (write-at t) write.Post write-Inv-loop write-μ-loop
+write-put-itself-requires t c κs = let f = c .before .before .before in
     let inv = turn t f .loop .inv in
     let stays = tells-itself _ _ _ _ _ _ (tells t f) (c .before .enum-told2 .given .1) in
     (spliced-in-text inv _ _ _ (passed t f) stays, spliced-room inv _ _ _ (passed t f) stays)
-
-write-length-requires : (t : ℕ) → write-lts.Need-length-requires (claims t) (write-at t) write.Post write-Inv-loop write-μ-loop
-write-length-requires t c κs = search needs
-
-write-cast-end : (t : ℕ) → write-lts.Need-cast-end (claims t) (write-at t) write.Post write-Inv-loop write-μ-loop
-write-cast-end t c = search needs
-
-write-add-end : (t : ℕ) → write-lts.Need-add-end (claims t) (write-at t) write.Post write-Inv-loop write-μ-loop
-write-add-end t c = let f = c .before .before .before .before .before .before .before in
-    let stays = tells-itself _ _ _ _ _ _ (tells t f) (c .before .before .before .before .before .enum-told2 .given .1) in
-    let fits = spliced-small (turn t f .loop .inv) _ _ _ (passed t f) stays in
-    omega (arith, fits, c .length .ensures)
 
 write-enum-known-from : (t : ℕ) → write-lts.Need-enum-known-from (claims t) (write-at t) write.Post write-Inv-loop write-μ-loop
 write-enum-known-from t c = search needs
@@ -117,12 +104,6 @@ write-copy-on-requires : (t : ℕ) → write-lts.Need-copy-on-requires (claims t
 write-copy-on-requires t c κs = let f = c .before .before .before .before in
     let stands = tells-copy _ _ _ _ _ _ (tells t f) (c .before .before .from .given .1) in
     (stands .0, copied-room (turn t f .loop .inv) _ _ _ (passed t f) _ _ stands)
-
-write-add-end-2 : (t : ℕ) → write-lts.Need-add-end-2 (claims t) (write-at t) write.Post write-Inv-loop write-μ-loop
-write-add-end-2 t c = let f = c .before .before .before .before .before .before .before in
-    let stands = tells-copy _ _ _ _ _ _ (tells t f) (c .before .before .before .before .before .from .given .1) in
-    let fits = copied-small (turn t f .loop .inv) _ _ _ (passed t f) _ _ stands in
-    omega (arith, fits)
 
 write-enum-known-word : (t : ℕ) → write-lts.Need-enum-known-word (claims t) (write-at t) write.Post write-Inv-loop write-μ-loop
 write-enum-known-word t c = search needs
@@ -168,12 +149,13 @@ write-note-requires t c κs = let f = c .before .before .before .before .before 
     (omega (arith, found .0, inv .ready .places-long, c .before .before .before .before .before .write .ensures .1 .1 .1), omega (arith, spliced-end inv .1))
 
 write-loop-less : (t : ℕ) → write-lts.Need-loop-less (claims t) (write-at t) write.Post write-Inv-loop write-μ-loop
-write-loop-less t c = let f = c .before .before .before .before .before .before .before in linked-less (turn t f .loop .inv .so-far) _ _ _ (passed t f)
+write-loop-less t c = let f = c .before .before .before .before .before .before in linked-less (turn t f .loop .inv .so-far) _ _ _ (passed t f)
 
 write-loop-again : (t : ℕ) → write-lts.Need-loop-again (claims t) (write-at t) write.Post write-Inv-loop write-μ-loop
-write-loop-again t c = let f = c .before .before .before .before .before .before .before in
-    let stays = tells-itself _ _ _ _ _ _ (tells t f) (c .before .before .before .before .before .enum-told2 .given .1) in
-    spliced-itself (turn t f .loop .inv) _ _ _ (passed t f) stays _ (c .before .before .before .put-piece .ensures) (c .length .ensures)
+write-loop-again t c = let f = c .before .before .before .before .before .before in
+    let stays = tells-itself _ _ _ _ _ _ (tells t f) (c .before .before .before .before .enum-told2 .given .1) in
+    let wrote = c .before .before .put-itself .ensures in
+    spliced-itself (turn t f .loop .inv) _ _ _ (passed t f) stays _ (wrote .0) (wrote .1)
 
 write-loop-less-2 : (t : ℕ) → write-lts.Need-loop-less-2 (claims t) (write-at t) write.Post write-Inv-loop write-μ-loop
 write-loop-less-2 t c = let f = c .before .before .before .before .before .before .before in linked-less (turn t f .loop .inv .so-far) _ _ _ (passed t f)
@@ -181,7 +163,8 @@ write-loop-less-2 t c = let f = c .before .before .before .before .before .befor
 write-loop-again-2 : (t : ℕ) → write-lts.Need-loop-again-2 (claims t) (write-at t) write.Post write-Inv-loop write-μ-loop
 write-loop-again-2 t c = let f = c .before .before .before .before .before .before .before in
     let stands = tells-copy _ _ _ _ _ _ (tells t f) (c .before .before .before .before .before .from .given .1) in
-    spliced-copy (turn t f .loop .inv) _ _ _ (passed t f) _ _ stands _ (c .before .before .copy-on .ensures)
+    let wrote = c .before .before .copy-on .ensures in
+    spliced-copy (turn t f .loop .inv) _ _ _ (passed t f) _ _ stands _ (wrote .0) (wrote .1)
 
 write-loop-less-3 : (t : ℕ) → write-lts.Need-loop-less-3 (claims t) (write-at t) write.Post write-Inv-loop write-μ-loop
 write-loop-less-3 t c = let f = c .before .before .before .before .before .before .before .before .before .before .before .before .before .before .before .before in linked-less (turn t f .loop .inv .so-far) _ _ _ (passed t f)
@@ -194,11 +177,7 @@ write-loop-again-3 t c = let f = c .before .before .before .before .before .befo
     (c .before .before .note .ensures)
 
 pub +write-spec : {M : Type 1} → statement M
-+write-spec = close μ-write λ t. write-lts.spec (claims t)
-    (write-at t)
-    write.Post
-    write-Inv-loop
-    write-μ-loop
++write-spec = close μ-write λ t. write-lts.spec (claims t) (write-at t) write.Post write-Inv-loop write-μ-loop
     (write-loop-holds t)
     (write-next-requires t)
     (write-enum-told t)
@@ -208,13 +187,9 @@ pub +write-spec : {M : Type 1} → statement M
     (write-enum-known-piece t)
     (write-put-for-requires t)
     (write-enum-told-2 t)
-    (write-put-piece-requires t)
-    (write-length-requires t)
-    (write-cast-end t)
-    (write-add-end t)
+    (write-put-itself-requires t)
     (write-enum-known-from t)
     (write-copy-on-requires t)
-    (write-add-end-2 t)
     (write-enum-known-word t)
     (write-cast-place t)
     (write-mul-place t)

@@ -1,5 +1,6 @@
 -- `copy_on`: the loop's invariant is `Copying`, over the output itself.
 use Prim.Native.Nat.{_+_, _-_, _≤_}
+use mathlib.Core.Path.{refl}
 use native.Mathlib.Omega.{arith}
 use borrow.Author.Needs.{needs}
 use Rattle.pieces.proofs.Copying.{Copying, copy-first, copy-last}
@@ -38,11 +39,14 @@ loop-again : tie.Need-loop-again Inv-loop μ-loop
 loop-again c = let l = c .before .before in
     (copy-on-more _ _ _ _ _ _ (l .loop .inv .0) (l .loop .inv .1) (c .before .loop-test .taken), l .loop .inv .1)
 
+add-result : tie.Need-add-result Inv-loop μ-loop
+add-result c = let inv = c .before .loop .inv .0 in search needs
+
 same-length : tie.Need-same-length Inv-loop μ-loop
 same-length c = c .before .loop .inv .0 .as-long
 
 returns : tie.Need-returns Inv-loop μ-loop
-returns c = copy-last _ _ _ _ _ _ _ (c .before .loop .inv .0) (c .loop-test .left)
+returns c = (refl, copy-last _ _ _ _ _ _ _ (c .before .loop .inv .0) (c .loop-test .left))
 
 pub copy-on-spec : {M : Type 1} → statement M
 copy-on-spec =
@@ -58,5 +62,6 @@ copy-on-spec =
     add-done
     loop-less
     loop-again
+    add-result
     same-length
     returns)

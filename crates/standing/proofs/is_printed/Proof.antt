@@ -1,6 +1,7 @@
 -- `is_printed`: CHECK's answer tells whether the text is accepted, and how long it is printed.
 use borrow.Author.Needs.{needs}
-use Rattle.standing.proofs.Texts.{no-run, printed-refused, printed-told}
+use Rattle.services.proofs.CheckTold.{told-no-run}
+use Rattle.standing.proofs.Texts.{printed-refused, printed-told}
 use Rattle.standing.proofs.is_printed.Statement.{statement}
 use Rattle.standing.proofs.is_printed.Tie as tie
 
@@ -23,7 +24,7 @@ returns : tie.Need-returns
 returns c = let k = c .before in printed-told _ (k .before .before .check .ensures) (k .cells .given .1)
 
 returns-2 : tie.Need-returns-2
-returns-2 c = let k = c .before in no-run _ (k .before .before .check .ensures) (k .ending .given .1)
+returns-2 c = let k = c .before in told-no-run _ (k .before .before .check .ensures) (k .ending .given .1)
 
 returns-3 : tie.Need-returns-3
 returns-3 c = let k = c .before in printed-refused _ (k .before .before .check .ensures) (k .refusal .given .1)

@@ -1,6 +1,7 @@
 -- `reads_finished`: a text that CHECK accepts can be asked.
 use borrow.Author.Needs.{needs}
-use Rattle.standing.proofs.Texts.{finished-ready, finished-refused, finished-told, no-run}
+use Rattle.services.proofs.CheckTold.{told-no-run}
+use Rattle.standing.proofs.Texts.{finished-ready, finished-refused, finished-told}
 use Rattle.standing.proofs.reads_finished.Statement.{statement}
 use Rattle.standing.proofs.reads_finished.Tie as tie
 
@@ -23,7 +24,7 @@ returns : tie.Need-returns
 returns c = let k = c .before .before in finished-told _ (k .before .before .check .ensures) (k .cells .given .1) (c .is-finished .ensures)
 
 returns-2 : tie.Need-returns-2
-returns-2 c = let k = c .before in no-run _ (k .before .before .check .ensures) (k .ending .given .1)
+returns-2 c = let k = c .before in told-no-run _ (k .before .before .check .ensures) (k .ending .given .1)
 
 returns-3 : tie.Need-returns-3
 returns-3 c = let k = c .before in finished-refused _ (k .before .before .check .ensures) (k .refusal .given .1)

@@ -1,6 +1,7 @@
 -- `is_acceptable`: CHECK's answer tells.
 use borrow.Author.Needs.{needs}
-use Rattle.vetting.proofs.Texts.{no-run, read-acceptable, refused-not}
+use Rattle.services.proofs.CheckTold.{told-no-run}
+use Rattle.vetting.proofs.Texts.{read-acceptable, refused-not}
 use Rattle.vetting.proofs.is_acceptable.Statement.{statement}
 use Rattle.vetting.proofs.is_acceptable.Tie as tie
 
@@ -20,7 +21,7 @@ returns : tie.Need-returns
 returns c = let k = c .before in read-acceptable _ (k .before .before .check .ensures) (k .cells .given .1)
 
 returns-2 : tie.Need-returns-2
-returns-2 c = let k = c .before in no-run _ (k .before .before .check .ensures) (k .ending .given .1)
+returns-2 c = let k = c .before in told-no-run _ (k .before .before .check .ensures) (k .ending .given .1)
 
 returns-3 : tie.Need-returns-3
 returns-3 c = let k = c .before in refused-not _ (k .before .before .check .ensures) (k .refusal .given .1)

@@ -7,20 +7,20 @@ use Rattle.linklists.proofs.building.add_word.Tie as tie
 returns : tie.Need-returns
 returns c = search needs
 
-fits-requires : tie.Need-fits-requires
-fits-requires c κs = search needs
+has-room-requires : tie.Need-has-room-requires
+has-room-requires c κs = search needs
 
 add-behind : tie.Need-add-behind
-add-behind c = let room = c .before .fits2 .ensures (c .if2 .taken) .0 in search needs
+add-behind c = let room = c .before .has-room .ensures (c .if2 .taken) .0 in search needs
 
 add-behind-2 : tie.Need-add-behind-2
-add-behind-2 c = let room = c .before .fits2 .ensures (c .if2 .taken) .0 in search needs
+add-behind-2 c = let room = c .before .has-room .ensures (c .if2 .taken) .0 in search needs
 
 put-run-requires : tie.Need-put-run-requires
-put-run-requires c κs = let (room, name, text) = c .before .before .fits2 .ensures (c .before .if2 .taken) in (name, omega (arith, room))
+put-run-requires c κs = let (room, name, text) = c .before .before .has-room .ensures (c .before .if2 .taken) in (name, omega (arith, room))
 
 put-run-requires-2 : tie.Need-put-run-requires-2
-put-run-requires-2 c κs = let (room, name, text) = c .before .before .before .before .before .before .fits2 .ensures (c .before .before .before .before .before .if2 .taken) in (text, omega (arith, room))
+put-run-requires-2 c κs = let (room, name, text) = c .before .before .before .before .before .before .has-room .ensures (c .before .before .before .before .before .if2 .taken) in (text, omega (arith, room))
 
 add-put-number : tie.Need-add-put-number
 add-put-number c = search needs
@@ -29,10 +29,10 @@ put-number-requires : tie.Need-put-number-requires
 put-number-requires c κs = search needs
 
 add-t13 : tie.Need-add-t13
-add-t13 c = let room = c .before .before .before .before .before .before .before .before .before .before .before .before .before .fits2 .ensures (c .before .before .before .before .before .before .before .before .before .before .before .before .if2 .taken) .0 in search needs
+add-t13 c = let room = c .before .before .before .before .before .before .before .before .before .before .before .before .before .has-room .ensures (c .before .before .before .before .before .before .before .before .before .before .before .before .if2 .taken) .0 in search needs
 
 add-t23 : tie.Need-add-t23
-add-t23 c = let room = c .before .before .before .before .before .before .before .before .before .before .before .before .before .fits2 .ensures (c .before .before .before .before .before .before .before .before .before .before .before .before .if2 .taken) .0 in search needs
+add-t23 c = let room = c .before .before .before .before .before .before .before .before .before .before .before .before .before .has-room .ensures (c .before .before .before .before .before .before .before .before .before .before .before .before .if2 .taken) .0 in search needs
 
 add-t22 : tie.Need-add-t22
 add-t22 c = search needs
@@ -51,7 +51,7 @@ add-word-spec =
     tie.close
     (tie.spec
     returns
-    fits-requires
+    has-room-requires
     add-behind
     add-behind-2
     put-run-requires

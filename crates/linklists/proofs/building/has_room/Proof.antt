@@ -1,11 +1,11 @@
--- `fits`: the sums stay small.
+-- `has_room`: the sums stay small.
 use borrow.Author.Needs.{needs}
 use mathlib.Core.Bool.{false≢true}
 use Prim.Native.Nat.{_+_, _-_}
 use native.Mathlib.Omega.{arith}
 use borrow.Author.Tests.{leb-true}
-use Rattle.linklists.proofs.building.fits.Statement.{statement}
-use Rattle.linklists.proofs.building.fits.Tie as tie
+use Rattle.linklists.proofs.building.has_room.Statement.{statement}
+use Rattle.linklists.proofs.building.has_room.Tie as tie
 
 returns : tie.Need-returns
 returns c = λ e. absurd (false≢true e)
@@ -28,5 +28,5 @@ returns-4 c = λ e.
     let h = leb-true (8 + a .name + a .text) (a .room - a .used) e in
     (omega (arith, h, c .if3 .left), omega (arith, c .before .before .if1 .left), omega (arith, c .before .if2 .left))
 
-pub fits-spec : {M : Type 1} → statement M
-fits-spec = tie.close (tie.spec returns returns-2 returns-3 add-result add-result-2 returns-4)
+pub has-room-spec : {M : Type 1} → statement M
+has-room-spec = tie.close (tie.spec returns returns-2 returns-3 add-result add-result-2 returns-4)
