@@ -20,7 +20,7 @@ use Rattle.stored.specs.Counted.{counted, number, so-many, then-read}
 use Rattle.stored.specs.Same.{same}
 use Rattle.words.specs.Answers.{link-by, link-numbers, link-read, link-text, links, read-text, within, write-linked}
 use Rattle.words.specs.Linking.{Word, holds, in-place, link, listed, plan-in, plan-of, stands-for, used}
-use Rattle.words.specs.Stock.{acceptable, as-counted, fits, is-read, names, next-word, right, stock, stocked, word}
+use Rattle.words.specs.Stock.{acceptable, as-counted, fits, is-read, is-name, next-word, right, stock, stocked, word}
 use Rattle.words.specs.declared.LinkAnswer.the-variants.{Linked, Refused}
 use Rattle.words.specs.declared.LinkRefusal.the-variants.{BadWords, Text, Overfull, OutShort}
 use Rattle.linking.specs.Calls.{Links}
@@ -69,7 +69,7 @@ pub calls : Links list text out (Linked 9 22) (bytes "[{y}][{y}][[{y}]]{%q}a" ++
     × Links big (uses 65) out (Refused Overfull) out
     × Links (2 ∷ 0 ∷ 0 ∷ 0 ∷ in-list (bytes "x") (bytes "[{%z}]") ++ in-list (bytes "z") []) text out (Refused (BadWords 1)) out
     × Links too-big (bytes "{%w}") out (Linked 1 1) (97 ∷ replicate 23 7)
-unfolding uses link-text links link-by link-read within write-linked read-text stock as-counted stocked next-word right fits names acceptable is-read word listed used holds plan-of plan-in link in-place stands-for number so-many counted then-read same accept read read-from go-on move past-token fit class token-text if-allowed before-brace allowed all-permitted permits may-hold character value follows scalar well-formed cells labels print letter _then_ under bytes
+unfolding uses link-text links link-by link-read within write-linked read-text stock as-counted stocked next-word right fits is-name acceptable is-read word listed used holds plan-of plan-in link in-place stands-for number so-many counted then-read same accept read read-from go-on move past-token fit class token-text if-allowed before-brace allowed all-permitted permits may-hold character value follows scalar well-formed cells labels print letter _then_ under bytes
 calls = (
   record { answer = refl; output = refl },
   record { answer = refl; output = refl },

@@ -30,7 +30,7 @@ use Rattle.words.specs.Stock.{
   as-counted,
   fits,
   is-read,
-  names,
+  is-name,
   next-word,
   right,
   stock,
@@ -115,7 +115,7 @@ unacceptable-refused text e = go (accept standard cellLimit text) refl e
 
 -- a right word has none of the faults
 right-faultless : (older : List Word) (w : Word) → right standard older w ≡ true → FaultyWord older w → ⊥
-unfolding names
+unfolding is-name
 right-faultless older w e (no-name h) =
     let named = and-true (leb 1 (length (w .name))) (allowed tokenLimit (stock-token w)) (right-word standard older w e .named) in
     omega (arith, leb-true 1 (length (w .name)) (named .0))
@@ -133,10 +133,10 @@ and-cases false b e one other = one refl
 
 -- and a word that is not right has one
 wrong-faulty : (older : List Word) (w : Word) → right standard older w ≡ false → FaultyWord older w
-unfolding right fits names
+unfolding right fits is-name
 wrong-faulty older w e =
     and-cases (fits standard older w) (not (used tokenLimit (stock-token w) (w ∷ older))) e
-    (λ h. and-cases (names standard (w .name)) (not (listed (stock-token w) older) && acceptable standard (w .text)) h
+    (λ h. and-cases (is-name standard (w .name)) (not (listed (stock-token w) older) && acceptable standard (w .text)) h
     (λ h. and-cases (leb 1 (length (w .name))) (allowed tokenLimit (stock-token w)) h
     (λ h. no-name (omega (arith, leb-false 1 (length (w .name)) h))) bad-name)
     (λ h. and-cases (not (listed (stock-token w) older)) (acceptable standard (w .text)) h

@@ -20,7 +20,7 @@ use Rattle.plan.proofs.Tests.{and-true}
 use Rattle.plan.proofs.Tokens.{allowed-parts}
 use Rattle.words.specs.Answers.{LinkWritten, link-text, within, write-linked}
 use Rattle.words.specs.Linking.{Word, in-place, link, plan-of, stands-for, stock-token}
-use Rattle.words.specs.Stock.{names}
+use Rattle.words.specs.Stock.{is-name}
 use Rattle.words.specs.declared.LinkAnswer.{LinkAnswer}
 use Rattle.words.proofs.Listing.{Right, RightWord, acceptable-plan, right-word, stands-word}
 use Rattle.linking.specs.Calls.{Links}
@@ -43,12 +43,12 @@ module _ {list : List ℕ} (newer older : List Word) (w : Word) (has : HasWords 
   fine = right-word standard older w (up-to-it .0)
 
   may : allowed tokenLimit (stock-token w) ≡ true
-  unfolding names
+  unfolding is-name
   may = and-true (leb 1 (length (w .name))) (allowed tokenLimit (stock-token w)) (fine .named) .1
 
   -- "A name is not empty and makes an allowed token, `{%` name `}`: so it has 1 to 61 bytes."
   pub name-length : (1 ≤ length (w .name)) × (length (w .name) ≤ 61)
-  unfolding names
+  unfolding is-name
   name-length =
       let named = and-true (leb 1 (length (w .name))) (allowed tokenLimit (stock-token w)) (fine .named) .0 in
       (leb-true 1 (length (w .name)) named, omega (arith, allowed-parts tokenLimit (stock-token w) may))

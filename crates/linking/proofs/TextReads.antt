@@ -4,18 +4,19 @@ use mathlib.Core.Path.{_≡_, refl, ap, sym, subst, _∙_}
 use mathlib.Core.List.{List, [], _∷_}
 use native.Mathlib.Omega.{arith}
 use borrow.Author.Tests.{le-leb, le-ltb, lt-ltb}
-use lib.ListN.{length, length-append}
+use lib.ListN.{length}
 use Rattle.kinds.specs.Limits.{textLimit, tokenLimit}
-use Rattle.plan.specs.Plan.{Plan, cells, close-brace, end, print}
-use Rattle.plan.specs.Pieces.{Piece, Shows, a-token, an-operator, blank, closes, nothing, opens, pieces, starts}
+use Rattle.plan.specs.Plan.{Plan, cells, end, print}
+use Rattle.plan.specs.Pieces.{Shows, pieces}
 use Rattle.plan.specs.Reading.{Around, Move, ON, PLAN, REFUSED, Reading, STOP, class, fit, go-on, inside, move, outermost, place, read, read-from}
 use Rattle.plan.specs.Services.{standard}
 use Rattle.plan.specs.declared.Refusal.{Refusal}
 use Rattle.plan.specs.declared.Refusal.the-variants.{Text}
 use Rattle.plan.specs.declared.TextFault.{TextFault}
 use Rattle.plan.specs.declared.TextFault.the-variants.{TooLong, Unclosed}
-use Rattle.plan.proofs.Pieces.{cells-pieces}
+use Rattle.plan.proofs.Faultless.{faultless-bounds}
 use Rattle.plan.proofs.ReadBack.{read-accepted}
+use Rattle.plan.proofs.Refusals.{read-faultless}
 use Rattle.plan.proofs.Tests.{never}
 use Rattle.reader.specs.Counting.{surveyed}
 use Rattle.reader.specs.declared.Surveyed.{Surveyed}
@@ -23,16 +24,6 @@ use Rattle.reader.specs.declared.Surveyed.the-variants.{Accepted, Refused}
 use Rattle.words.specs.Answers.{read-text}
 use Rattle.words.specs.Linking.{plan-in, plan-of}
 use Rattle.shelf.specs.Shelf.{Readable}
-
--- every item has a byte of its own
-starts-short : {limit at : ℕ} {bs : List ℕ} {ps : List (Piece ℕ)} → Shows limit at bs ps → length (starts ps) ≤ length bs
-unfolding starts
-starts-short nothing = omega arith
-starts-short (blank c s) = omega (arith, starts-short s)
-starts-short (an-operator c s) = omega (arith, starts-short s)
-starts-short (a-token {bs = bs} t c a s) = omega (arith, starts-short s, length-append t (close-brace ∷ bs))
-starts-short (opens c s) = omega (arith, starts-short s)
-starts-short (closes c s) = omega (arith, starts-short s)
 
 -- only a fault of the text refuses it
 FaultOf : Refusal → Type 0
@@ -64,8 +55,9 @@ module _ (text : List ℕ) where
     shown : Shows tokenLimit 0 text (pieces p)
     shown = read-accepted tokenLimit (cells p) text reads-itself .shows
 
+    -- every item has a byte of its own
     few : cells p ≤ length text
-    few = omega (arith, starts-short shown, cells-pieces p)
+    few = faultless-bounds (read-faultless tokenLimit (cells p) text reads-itself .0) .1
 
     plan-so : plan-of tokenLimit text ≡ p
     unfolding plan-of plan-in

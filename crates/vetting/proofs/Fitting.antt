@@ -19,7 +19,7 @@ use Rattle.stored.specs.Places.{run-at}
 use Rattle.stored.specs.declared.RunAt.the-variants.{Whole}
 use Rattle.stored.proofs.Places.{run-found}
 use Rattle.words.specs.Linking.{Word, listed, percent, stock-token}
-use Rattle.words.specs.Stock.{acceptable, fits, names, word}
+use Rattle.words.specs.Stock.{acceptable, fits, is-name, word}
 use Rattle.words.proofs.Listing.{acceptable-plan}
 use Rattle.shelf.specs.Shelf.{Readable}
 use Rattle.shelf.proofs.Words.{word-whole}
@@ -55,8 +55,8 @@ module _ (list : List ℕ) (older : List Word) (at : ℕ) where
 
     -- a word fits when its name is new and its text acceptable
     fit-parts : fit-front standard older (word (drop at list)) ≡ (is-new-name older name && acceptable standard text)
-    unfolding fit-front fits names
-    fit-parts = ap (fit-front standard older) there ∙ moved (names standard name) (not (listed (percent ∷ name) older)) (acceptable standard text)
+    unfolding fit-front fits is-name
+    fit-parts = ap (fit-front standard older) there ∙ moved (is-name standard name) (not (listed (percent ∷ name) older)) (acceptable standard text)
       where
         moved : (a b c : Bool) → (a && (b && c)) ≡ ((a && b) && c)
         moved true b c = refl
@@ -104,9 +104,9 @@ pub record FitWord (older : List Word) (w : Word) : Type 0 where
 
 -- a word that passes all the tests passes each
 pub fit-word : (older : List Word) (w : Word) → fits standard older w ≡ true → FitWord older w
-unfolding fits names
+unfolding fits is-name
 fit-word older w e =
-    let (named, more) = and-true (names standard (w .name)) (not (listed (stock-token w) older) && acceptable standard (w .text)) e in
+    let (named, more) = and-true (is-name standard (w .name)) (not (listed (stock-token w) older) && acceptable standard (w .text)) e in
     let (some, fine) = and-true (leb 1 (length (w .name))) (allowed tokenLimit (stock-token w)) named in
     let (new, read) = and-true (not (listed (stock-token w) older)) (acceptable standard (w .text)) more in
     let t = acceptable-plan standard (w .text) read in

@@ -15,7 +15,7 @@ use Rattle.plan.proofs.Tests.{and-false}
 use Rattle.plan.proofs.Utf8.{character-width}
 use Rattle.plan.specs.Services.{standard}
 use Rattle.words.specs.Linking.{percent}
-use Rattle.words.specs.Stock.{names}
+use Rattle.words.specs.Stock.{is-name}
 
 -- passing over bytes is leaving them out
 skipped : (skip : ℕ) (bs : List ℕ) → all-permitted skip bs ≡ all-permitted 0 (drop skip bs)
@@ -81,8 +81,8 @@ module _ {name : List ℕ} {at : ℕ} (inv : PermittedSoFar name at) where
         record { within = permitted-within .1; decides = next ∙ ap (_&& all-permitted 0 (drop (at + w) name)) (sym told ∙ found) }
 
 -- an empty name is none
-pub name-empty : (name : List ℕ) → length name ≡ 0 → false ≡ names standard name
-unfolding names
+pub name-empty : (name : List ℕ) → length name ≡ 0 → false ≡ is-name standard name
+unfolding is-name
 name-empty name e = sym (ap (_&& allowed tokenLimit (percent ∷ name)) (lt-leb 1 (length name) (omega arith)))
 
 module _ (name : List ℕ) where
@@ -92,12 +92,12 @@ module _ (name : List ℕ) where
   all = rw (le-leb 1 (suc (length name)) (omega arith)) refl
 
   -- one that is longer than a token has room for is none
-  pub name-long : 61 < length name → false ≡ names standard name
-  unfolding names
+  pub name-long : 61 < length name → false ≡ is-name standard name
+  unfolding is-name
   name-long h = sym (rw (all, lt-leb (suc (length name) + 2) tokenLimit (omega arith)) (and-false (leb 1 (length name))))
 
   -- of any other its characters decide
-  pub name-told : {r : Bool} → (length name ≡ 0 → ⊥) → (61 < length name → ⊥) → r ≡ all-permitted 0 name → r ≡ names standard name
-  unfolding names
+  pub name-told : {r : Bool} → (length name ≡ 0 → ⊥) → (61 < length name → ⊥) → r ≡ all-permitted 0 name → r ≡ is-name standard name
+  unfolding is-name
   name-told some short e =
       e ∙ sym (rw (all, le-leb 1 (length name) (omega arith), le-leb (suc (length name) + 2) tokenLimit (omega arith)) refl)

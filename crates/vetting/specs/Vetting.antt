@@ -12,7 +12,7 @@ use Rattle.plan.specs.Services.{Limits, standard}
 use Rattle.plan.specs.Token.{allowed}
 use Rattle.stored.specs.Counted.{AtFront, CUT, FRONT}
 use Rattle.words.specs.Linking.{Word, listed, percent, stock-token, used}
-use Rattle.words.specs.Stock.{FAULT, Stock, WORDS, fits, names, word, wordLimit}
+use Rattle.words.specs.Stock.{FAULT, Stock, WORDS, fits, is-name, word, wordLimit}
 use Rattle.shelf.specs.Shelf.{Shelved, seek-piece, word-of, words-to}
 use Rattle.shelf.specs.declared.Named.{Named}
 use Rattle.shelf.specs.declared.Named.the-variants.{Unlisted, Listed}
@@ -45,7 +45,7 @@ earliest limit (w ∷ older) =
 
 -- a name that none of these words has
 abbrev pub is-new-name : (older : List Word) → List ℕ → Bool
-is-new-name older name = names standard name && not (listed (percent ∷ name) older)
+is-new-name older name = is-name standard name && not (listed (percent ∷ name) older)
 
 -- the words of the ranks below n have names of their own
 abbrev pub OwnNames : (list starts : List ℕ) → (n : ℕ) → Type 0

@@ -10,7 +10,7 @@ ghost use Rattle.plan.specs.Pieces.{pieces};
 ghost use Rattle.plan.specs.Services.{standard};
 ghost use Rattle.plan.specs.Token.{all-permitted};
 ghost use Rattle.words.specs.Linking.{plan-of};
-ghost use Rattle.words.specs.Stock.{acceptable, names, stock, wordLimit};
+ghost use Rattle.words.specs.Stock.{acceptable, is-name, stock, wordLimit};
 ghost use Rattle.shelf.specs.Shelf.{Readable, Shelved, words-to};
 ghost use Rattle.vetting.specs.Vetting.{EndTells, VettedShelved, OwnNames, earliest, fitting, is-new-name, vetted-told, lower, lowered, shelf-told};
 use items::Cursor;
@@ -69,7 +69,7 @@ fn are_permitted(name: &[u8]) -> bool
 
 // A name is not empty, and with `%` before it makes an allowed token.
 fn is_name(name: &[u8]) -> bool
-    ensures { λ r. ⌜ r ≡ names standard (now (name .entry)) ⌝ }
+    ensures { λ r. ⌜ r ≡ is-name standard (now (name .entry)) ⌝ }
 {
     if name.len() == 0 {
         return false;

@@ -31,7 +31,7 @@ use Rattle.words.specs.Stock.{
   as-counted,
   fits,
   is-read,
-  names,
+  is-name,
   next-word,
   right,
   stock,
@@ -78,7 +78,7 @@ acceptable-plan lim text e = go (accept lim (lim .cells) text) refl e
 
 -- a right word, part by part
 pub record RightWord (lim : Limits) (older : List Word) (w : Word) : Type 0 where
-  pub named : names lim (w .name) ≡ true
+  pub named : is-name lim (w .name) ≡ true
   pub new : listed (stock-token w) older ≡ false
   pub reads : acceptable lim (w .text) ≡ true
   pub unused : used (lim .token) (stock-token w) (w ∷ older) ≡ false
@@ -88,7 +88,7 @@ pub right-word : (lim : Limits) (older : List Word) (w : Word) → right lim old
 unfolding right fits
 right-word lim older w e =
     let (fit, apart) = and-true (fits lim older w) (not (used (lim .token) (stock-token w) (w ∷ older))) e in
-    let (name, more) = and-true (names lim (w .name)) (not (listed (stock-token w) older) && acceptable lim (w .text)) fit in
+    let (name, more) = and-true (is-name lim (w .name)) (not (listed (stock-token w) older) && acceptable lim (w .text)) fit in
     let (new, text) = and-true (not (listed (stock-token w) older)) (acceptable lim (w .text)) more in
     record { named = name; new = not-true _ new; reads = text; unused = not-true _ apart }
 

@@ -10,10 +10,10 @@ use Rattle.plan.specs.Worked.{bytes}
 use Rattle.stored.specs.Counted.{counted, four-bytes, number, so-many, then-read, with-count}
 use Rattle.stored.specs.Same.{same}
 use Rattle.words.specs.Linking.{holds, in-place, link, listed, plan-in, plan-of, stands-for, used}
-use Rattle.words.specs.Stock.{acceptable, as-counted, fits, is-read, names, next-word, right, stock, stocked, word}
+use Rattle.words.specs.Stock.{acceptable, as-counted, fits, is-read, is-name, next-word, right, stock, stocked, word}
 use Rattle.words.specs.Answers.{link-by, link-read, link-text, links, read-text, within, write-linked}
 use Rattle.words.specs.Worked.{answered, expected, lent, listing, worked-links}
 
 pub worked-lists : map answered worked-links ≡ map expected worked-links
-unfolding answered expected lent listing worked-links bytes link-text links link-by link-read read-text within write-linked stock as-counted stocked next-word right fits names acceptable is-read word used listed holds stands-for link in-place plan-of plan-in same counted number so-many then-read with-count four-bytes accept read read-from go-on move past-token fit class token-text if-allowed before-brace allowed all-permitted permits may-hold character value follows scalar well-formed cells labels print letter _then_ under
+unfolding answered expected lent listing worked-links bytes link-text links link-by link-read read-text within write-linked stock as-counted stocked next-word right fits is-name acceptable is-read word used listed holds stands-for link in-place plan-of plan-in same counted number so-many then-read with-count four-bytes accept read read-from go-on move past-token fit class token-text if-allowed before-brace allowed all-permitted permits may-hold character value follows scalar well-formed cells labels print letter _then_ under
 worked-lists = refl

@@ -26,12 +26,12 @@ unfoldable pub acceptable : Limits → List ℕ → Bool
 acceptable lim text = is-read (accept lim (lim .cells) text)
 
 -- a name is not empty and makes an allowed token
-unfoldable pub names : Limits → (name : List ℕ) → Bool
-names lim name = leb 1 (length name) && allowed (lim .token) (percent ∷ name)
+unfoldable pub is-name : Limits → (name : List ℕ) → Bool
+is-name lim name = leb 1 (length name) && allowed (lim .token) (percent ∷ name)
 
 -- a word that is right by itself and has a name of its own
 unfoldable pub fits : Limits → (older : List Word) → Word → Bool
-fits lim older w = names lim (w .name) && (not (listed (stock-token w) older) && acceptable lim (w .text))
+fits lim older w = is-name lim (w .name) && (not (listed (stock-token w) older) && acceptable lim (w .text))
 
 -- .. and that no word up to itself uses
 unfoldable pub right : Limits → (older : List Word) → Word → Bool
