@@ -38,27 +38,34 @@ enum turnip_field {
     TURNIP_FIELDS
 };
 
-/* Which answer it is. 11 comes before 12; then 13, 14 and 15, whichever stands first from the left; then 16, 17, 18. */
+/* Which answer it is. 11 comes before 12; then 13, 15 and a token's fault, whichever stands first from the left, a token by its
+   {; then 16, 17, 18. 21 to 25 say what is wrong with a token, and the first fault of a token is given: it stands before the
+   token's }, or at it where nothing is between the braces. Where two stand at one byte, 22 is given. */
 enum turnip_number {
-    TURNIP_DONE = 0,       /* RUN: no operator is ready, at any depth */
-    TURNIP_QUOTA = 1,      /* RUN: the steps made equal the quota, and there is a next result that fits */
-    TURNIP_FULL = 2,       /* RUN: the next result has more cells than the work memory gives */
-    TURNIP_READ = 3,       /* CHECK, TIDY, LINK: the text is accepted, finished or not */
-    TURNIP_TOOLONG = 11,   /* the text is over 1,048,576 bytes */
-    TURNIP_BADARENA = 12,  /* RUN: the work memory gives more than 4,096 cells */
-    TURNIP_BADBYTE = 13,   /* a byte that means nothing outside tokens; its place */
-    TURNIP_BADTOKEN = 14,  /* a { that opens no allowed token; its place */
-    TURNIP_UNMATCHED = 15, /* a ] with no block open; its place */
-    TURNIP_UNCLOSED = 16,  /* the text ends in an open block; the place is the text's length */
-    TURNIP_OVERFULL = 17,  /* more cells than there may be; the place is the first byte of the first item past them */
-    TURNIP_OUTSHORT = 18   /* TIDY, RUN, LINK: the printed text is longer than the output; the place is the bytes needed */
+    TURNIP_DONE = 0,        /* RUN: no operator is ready, at any depth */
+    TURNIP_QUOTA = 1,       /* RUN: the steps made equal the quota, and there is a next result that fits */
+    TURNIP_FULL = 2,        /* RUN: the next result has more cells than the work memory gives */
+    TURNIP_READ = 3,        /* CHECK, TIDY, LINK: the text is accepted, finished or not */
+    TURNIP_TOOLONG = 11,    /* the text is over 1,048,576 bytes */
+    TURNIP_BADARENA = 12,   /* RUN: the work memory gives more than 4,096 cells */
+    TURNIP_BADBYTE = 13,    /* a byte that means nothing outside tokens; its place */
+    TURNIP_UNMATCHED = 15,  /* a ] with no block open; its place */
+    TURNIP_UNCLOSED = 16,   /* the text ends in an open block; the place is the text's length */
+    TURNIP_OVERFULL = 17,   /* more cells than there may be; the place is the first byte of the first item past them */
+    TURNIP_OUTSHORT = 18,   /* TIDY, RUN, LINK: the printed text is longer than the output; the place is the bytes needed */
+    TURNIP_EMPTYTOKEN = 21, /* nothing between a token's braces; the place of its } */
+    TURNIP_LONGTOKEN = 22,  /* a token's 64th byte, its { being the first, is not its }; that byte's place. Or the text ends in a
+                               token before that; the place is the text's length */
+    TURNIP_BADUTF8 = 23,    /* bytes in a token that begin no character of UTF-8; the place of the first of them */
+    TURNIP_FORBIDDEN = 24,  /* a character that no token may hold: U+0000 to U+001F, U+007F to U+009F, U+FFFD; its first byte */
+    TURNIP_INNERBRACE = 25  /* a { in a token; its place */
 };
 
 /* CHECK: whether a text is a plan, with the plan's cells and the length of its printed text. */
 void turnip_check(const uint8_t *text, size_t text_length, uint32_t answer[5]);
 
 /* TIDY: CHECK, and the printed text of the plan (the text with no SP and no LF outside tokens) written to the start of out.
-   The other bytes of out are as they were; after a refusal (11 to 18) all of them are. */
+   The other bytes of out are as they were; after a refusal (11 to 25) all of them are. */
 void turnip_tidy(const uint8_t *text, size_t text_length, uint8_t *out, size_t out_length, uint32_t answer[5]);
 
 /* RUN: rewrites the plan of a text at most quota times, in the work memory, and writes the printed text of what it then is to
@@ -74,8 +81,8 @@ void turnip_run(const uint8_t *text, size_t text_length, uint32_t quota, uint32_
    counts are four bytes, lowest first. A word's rank is its number in the list, from 0. In a plan a token {%name} stands for the
    word of that name; a word may use the words before it. To RUN such a token is a name like any other. */
 
-/* The numbers of LINK are 3, 11 and 13 to 18 as above, but that the place of 17 is 0, and this one, which comes before them
-   all. */
+/* The numbers of LINK are 3, 11, 13, 15 to 18 and 21 to 25 as above, but that the place of 17 is 0, and this one, which comes
+   before them all. */
 enum turnip_link_number {
     TURNIP_BADWORDS = 26 /* the list is not right; the place is the least rank at fault: 0 for a cut count, 256 for one over
                             256, the count for bytes behind the last word */

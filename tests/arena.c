@@ -102,24 +102,37 @@ static int may_hold(uint32_t value)
     return value != '{' && 0x20 <= value && (value < 0x7F || 0x9F < value) && value != 0xFFFD;
 }
 
-/* The bytes of the token that a `{` opens, both braces among them; 0 where it opens no allowed token. */
-static uint32_t token_length(const uint8_t *bytes, size_t left)
+/* No item: the number of the fault is told, and its place is moved on to it. */
+static uint32_t refuse(struct survey *fault, uint32_t number, uint32_t bytes)
 {
-    uint32_t at = 1;
-    uint32_t value, width;
-
-    while ((width = character(bytes + at, left - at, &value)) != 0) {
-        if (value == '}')
-            return at == 1 ? 0 : at + 1;
-        if (TOKEN_LIMIT < at + width + 1 || !may_hold(value))
-            return 0;
-        at += width;
-    }
+    fault->number = number;
+    fault->place += bytes;
     return 0;
 }
 
+/* The bytes of the token that a `{` opens, both braces among them; 0 where it opens no allowed one, and its first fault. A good
+   character that reaches over the last byte that a token may have makes it too long at that byte. */
+static uint32_t token_length(const uint8_t *bytes, size_t left, struct survey *fault)
+{
+    enum { LAST = TOKEN_LIMIT - 1 };
+    uint32_t at = 1;
+    uint32_t value, width;
+
+    while (at < LAST && at < left && bytes[at] != '}') {
+        width = character(bytes + at, left - at, &value);
+        if (width == 0)
+            return refuse(fault, TURNIP_BADUTF8, at);
+        if (!may_hold(value))
+            return refuse(fault, value == '{' ? TURNIP_INNERBRACE : TURNIP_FORBIDDEN, at);
+        at += width;
+    }
+    if (LAST < at || at == left || bytes[at] != '}')
+        return refuse(fault, TURNIP_LONGTOKEN, at < LAST ? at : LAST);
+    return at == 1 ? refuse(fault, TURNIP_EMPTYTOKEN, at) : at + 1;
+}
+
 /* The bytes of the item, close or blank at the front of `left` bytes, and what its cell would hold; 0 for a fault. */
-static uint32_t piece(const uint8_t *bytes, size_t left, uint32_t *kind)
+static uint32_t piece(const uint8_t *bytes, size_t left, uint32_t *kind, struct survey *fault)
 {
     enum { NO_ITEM = 6 };
 
@@ -132,13 +145,13 @@ static uint32_t piece(const uint8_t *bytes, size_t left, uint32_t *kind)
         return 1;
     case '{':
         *kind = TOKEN_KIND;
-        return token_length(bytes, left);
+        return token_length(bytes, left, fault);
     case ']': case ' ': case '\n':
         *kind = NO_ITEM;
         return 1;
     default:
         *kind = NO_ITEM;
-        return 0;
+        return refuse(fault, TURNIP_BADBYTE, 0);
     }
 }
 
@@ -149,9 +162,10 @@ static struct survey look_over(const uint8_t *text, size_t len, uint32_t room)
     uint32_t depth = 0, past = 0, kind, width;
 
     for (uint32_t at = 0; at < len; at += width) {
-        width = piece(text + at, len - at, &kind);
+        struct survey fault = {0, at, 0};
+        width = piece(text + at, len - at, &kind, &fault);
         if (width == 0)
-            return (struct survey){text[at] == '{' ? TURNIP_BADTOKEN : TURNIP_BADBYTE, at, 0};
+            return fault;
         if (kind <= BLOCK_KIND) {
             if (found.cells == room)
                 past = at;

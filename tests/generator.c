@@ -1,6 +1,7 @@
 /* How the cases are made. A shape is drawn first: plans at random, pieces of known combinators, plans that double, deep
-   nesting, tokens at their limits, texts at theirs, damaged texts. Sizes are small most often, since many short runs reach
-   more corners than few long ones. Bytes past a text's room are dropped, so no shape has to count. */
+   nesting, tokens at their limits, what is wrong with a token at each of its edges, texts at their limits, damaged texts. Sizes
+   are small most often, since many short runs reach more corners than few long ones. Bytes past a text's room are dropped, so no
+   shape has to count. */
 #include "generator.h"
 
 #include <stdbool.h>
@@ -96,18 +97,23 @@ static size_t width_of(uint32_t code)
     return code < 0x80 ? 1 : code < 0x800 ? 2 : code < 0x10000 ? 3 : 4;
 }
 
-/* A token of so many bytes, of allowed characters as long as they fit, and then of letters. */
-static void put_long_token(struct maker *maker, size_t length)
+/* So many bytes, of allowed characters as long as they fit, and then of letters. */
+static void put_characters(struct maker *maker, size_t bytes)
 {
-    size_t left = length - 2;
-    put(maker, '{');
-    while (left > 0) {
+    while (bytes > 0) {
         uint32_t code = good_code(maker->draws);
-        if (width_of(code) > left)
+        if (width_of(code) > bytes)
             code = 'x';
         put_code(maker, code);
-        left -= width_of(code);
+        bytes -= width_of(code);
     }
+}
+
+/* A token of so many bytes. */
+static void put_long_token(struct maker *maker, size_t length)
+{
+    put(maker, '{');
+    put_characters(maker, length - 2);
     put(maker, '}');
 }
 
@@ -305,6 +311,91 @@ static void tokens(struct maker *maker)
     put_items(maker, below(maker->draws, 4));
 }
 
+enum { FURTHEST_EDGE = 67 };
+
+/* Which byte of a token to put something at, its { being the first: the second, one about the 64th, or any. */
+static size_t token_edge(struct draws *draws)
+{
+    switch (below(draws, 4)) {
+    case 0: return 2;
+    case 1: return 2 + below(draws, FURTHEST_EDGE - 1);
+    default: return 61 + below(draws, 6);
+    }
+}
+
+/* What may stand at an edge of a token, or meet something else there: a good character of any width, which may reach over the
+   edge or end at it; a bad one; the front of one, which the next byte or the text's end cuts; a forbidden one; a brace. */
+static void put_at_edge(struct maker *maker)
+{
+    static const char *const fronts[] = {"\xc3", "\xe2", "\xe2\x82", "\xf0", "\xf0\x9f", "\xf0\x9f\x98", "\xc2", "\xef\xbf"};
+    static const char *const forbidden[] = {"\x1f", "\n", "\x7f", "\xc2\x80", "\xc2\x9f", "\xef\xbf\xbd", "\xef\xbf\xbd"};
+    switch (below(maker->draws, 12)) {
+    case 0: case 1: case 2:
+        put_code(maker, good_code(maker->draws));
+        break;
+    case 3: case 4: case 5:
+        put_bad_character(maker);
+        break;
+    case 6: case 7:
+        put_string(maker, fronts[below(maker->draws, sizeof fronts / sizeof *fronts)]);
+        break;
+    case 8: case 9:
+        put_string(maker, forbidden[below(maker->draws, sizeof forbidden / sizeof *forbidden)]);
+        break;
+    default:
+        put(maker, (uint8_t)"{}"[below(maker->draws, 2)]);
+    }
+}
+
+/* A { with good characters up to an edge, and there one to three things or none; then a }, or more characters first, or no }
+   at all, so that the text's end comes next or whatever is put behind. It may be a token. */
+static void put_edge_token(struct maker *maker)
+{
+    put(maker, '{');
+    put_characters(maker, token_edge(maker->draws) - 2);
+    for (size_t left = below(maker->draws, 4); left > 0; left--)
+        put_at_edge(maker);
+    if (one_in(maker->draws, 4))
+        put_characters(maker, 1 + below(maker->draws, 6));
+    if (!one_in(maker->draws, 3))
+        put(maker, '}');
+}
+
+void add_edge_token(struct draws *draws, struct text *text)
+{
+    struct maker maker = {draws, text, 0, 0, "abcd"};
+    put_edge_token(&maker);
+}
+
+/* A { with good characters up to an edge, where the text ends: behind a character, or inside one. */
+static void put_cut_token(struct maker *maker)
+{
+    struct text *text = maker->text;
+    size_t end = text->length + token_edge(maker->draws) - 1;
+    put(maker, '{');
+    put_characters(maker, FURTHEST_EDGE);
+    text->length = end < text->length ? end : text->length;
+}
+
+/* A fault behind a fault, of tokens at their edges, bytes and brackets: the first must be told. */
+static void edges(struct maker *maker)
+{
+    static const char *const others[] = {"]", "#", "}", "{}", "[", "\xc3\xa9"};
+    put_items(maker, below(maker->draws, 3));
+    for (size_t left = below(maker->draws, 3); left > 0; left--) {
+        if (one_in(maker->draws, 4))
+            put_string(maker, others[below(maker->draws, sizeof others / sizeof *others)]);
+        else
+            put_edge_token(maker);
+    }
+    if (one_in(maker->draws, 2)) {
+        put_cut_token(maker);
+    } else {
+        put_edge_token(maker);
+        put_items(maker, below(maker->draws, 4));
+    }
+}
+
 /* Bytes at random, most of them such as plans are made of. */
 static void scribble(struct maker *maker)
 {
@@ -403,20 +494,22 @@ void make_text(struct draws *draws, struct text *text)
     if (one_in(draws, 8))
         maker.fancy = 3;
     size_t shape = below(draws, 2000);
-    if (shape < 820)
+    if (shape < 700)
         small_plan(&maker);
-    else if (shape < 1120)
+    else if (shape < 1000)
         pieces(&maker);
-    else if (shape < 1280)
+    else if (shape < 1160)
         doubling(&maker);
-    else if (shape < 1360)
+    else if (shape < 1240)
         medium_plan(&maker);
-    else if (shape < 1420)
+    else if (shape < 1300)
         nested(&maker);
-    else if (shape < 1830)
+    else if (shape < 1670)
         damaged(&maker);
-    else if (shape < 1930)
+    else if (shape < 1750)
         tokens(&maker);
+    else if (shape < 1930)
+        edges(&maker);
     else if (shape < 1994)
         scribble(&maker);
     else if (shape < 1998)

@@ -25,6 +25,9 @@ size_t below(struct draws *draws, size_t bound);
 
 void make_text(struct draws *draws, struct text *text);
 
+/* Adds a { to a text, and something at an edge of the token that it opens: most often what no token may hold there. */
+void add_edge_token(struct draws *draws, struct text *text);
+
 /* A length of work memory for a plan that has so many cells, and at most so many during its run. */
 size_t make_memory_length(struct draws *draws, size_t cells, size_t most);
 

@@ -28,13 +28,14 @@ typedef void link_function(const uint8_t *, size_t, const uint8_t *, size_t, uin
 
 /* ---- Plain C: texts. ---- */
 
-/* The bytes of the character at the start of these, if a token may hold it; else 0. */
-static size_t character(const uint8_t *bytes, size_t left)
+/* The bytes of the character at the start of these, if a token may hold it; else 0, and what is wrong with it. */
+static size_t character(const uint8_t *bytes, size_t left, uint32_t *fault)
 {
     uint8_t lead = bytes[0];
     size_t width = lead < 0xe0 ? 2 : lead < 0xf0 ? 3 : 4;
     uint32_t code = lead & (0x7fu >> width);
 
+    *fault = lead == '{' ? TURNIP_INNERBRACE : lead < 0x80 ? TURNIP_FORBIDDEN : TURNIP_BADUTF8;
     if (lead < 0x80)
         return lead >= 0x20 && lead != 0x7f && lead != '{';
     if (lead < 0xc2 || lead > 0xf4 || left < width)
@@ -44,31 +45,40 @@ static size_t character(const uint8_t *bytes, size_t left)
             return 0;
         code = code << 6 | (bytes[i] & 0x3f);
     }
-    if (code < 0xa0 || (width == 3 && code < 0x800) || (width == 4 && code < 0x10000))
+    if ((width == 3 && code < 0x800) || (width == 4 && code < 0x10000) || (code >= 0xd800 && code <= 0xdfff) || code > 0x10ffff)
         return 0;
-    return (code >= 0xd800 && code <= 0xdfff) || code == 0xfffd || code > 0x10ffff ? 0 : width;
+    *fault = TURNIP_FORBIDDEN;
+    return code < 0xa0 || code == 0xfffd ? 0 : width;
 }
 
-/* The bytes of the token at the start of these, or 0 where there is none. */
-static size_t token_bytes(const uint8_t *bytes, size_t left)
-{
-    size_t at = 1, most = left < TOKEN_BYTES ? left : TOKEN_BYTES;
-
-    while (at < most && bytes[at] != '}') {
-        size_t width = character(bytes + at, left - at);
-        if (width == 0)
-            return 0;
-        at += width;
-    }
-    return at < most && at > 1 ? at + 1 : 0;
-}
-
-/* What a text is: the number of its refusal, 0 where there is none of 11 and 13 to 16, and its cells. */
+/* What a text is: the number of its refusal, 0 where there is none of 11, 13, 15, 16 and 21 to 25, its place, and its cells. */
 struct survey {
     uint32_t number;
     size_t place;
     size_t cells;
 };
+
+/* The bytes of the token at the start of these; 0 where there is none: its first fault is then told, and the place moved on. */
+static size_t token_bytes(const uint8_t *bytes, size_t left, struct survey *survey)
+{
+    size_t at = 1, last = left < TOKEN_BYTES ? left : TOKEN_BYTES - 1;
+
+    while (at < last && bytes[at] != '}') {
+        size_t width = character(bytes + at, left - at, &survey->number);
+        if (width == 0) {
+            survey->place += at;
+            return 0;
+        }
+        at += width;
+    }
+    if (at > 1 && at <= last && at < left && bytes[at] == '}') {
+        survey->number = 0;
+        return at + 1;
+    }
+    survey->number = at == 1 && left > 1 ? TURNIP_EMPTYTOKEN : TURNIP_LONGTOKEN;
+    survey->place += at < last ? at : last;
+    return 0;
+}
 
 /* The bytes of what starts here, 0 where it is refused. */
 static size_t survey_item(struct survey *survey, const uint8_t *bytes, size_t left, size_t *depth)
@@ -82,8 +92,7 @@ static size_t survey_item(struct survey *survey, const uint8_t *bytes, size_t le
         survey->number = *depth == 0 ? TURNIP_UNMATCHED : 0;
         return (*depth)-- > 0;
     case '{':
-        width = token_bytes(bytes, left);
-        survey->number = width == 0 ? TURNIP_BADTOKEN : 0;
+        width = token_bytes(bytes, left, survey);
         break;
     case '[':
         ++*depth;
@@ -106,8 +115,8 @@ static struct survey survey_text(const uint8_t *text, size_t length)
     if (length > MOST_BYTES)
         return (struct survey){TURNIP_TOOLONG, 0, 0};
     for (size_t at = 0; at < length;) {
-        size_t width = survey_item(&survey, text + at, length - at, &depth);
         survey.place = at;
+        size_t width = survey_item(&survey, text + at, length - at, &depth);
         if (width == 0)
             return survey;
         at += width;
@@ -163,12 +172,13 @@ static bool take_counted(const uint8_t *list, size_t list_length, size_t *at, co
 static bool is_name(const uint8_t *name, size_t length)
 {
     uint8_t token[TOKEN_BYTES] = "{%";
+    struct survey survey = {0, 0, 0};
 
     if (length == 0 || length > NAME_BYTES)
         return false;
     memcpy(token + 2, name, length);
     token[length + 2] = '}';
-    return token_bytes(token, length + 3) == length + 3;
+    return token_bytes(token, length + 3, &survey) == length + 3;
 }
 
 /* Whether the next word is there, and nothing is wrong with it alone and beside the names before it. */

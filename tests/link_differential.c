@@ -22,8 +22,10 @@
 enum { GUARD = 16 };
 enum { TOLD_AT_MOST = 5, HEX_AT_MOST = 4000, ALL_EXPECTED_FROM = 10000, NUMBERS = TURNIP_BADWORDS + 1 };
 
-static const uint32_t possible[] = {TURNIP_READ,      TURNIP_TOOLONG,  TURNIP_BADBYTE,  TURNIP_BADTOKEN, TURNIP_UNMATCHED,
-                                    TURNIP_UNCLOSED, TURNIP_OVERFULL, TURNIP_OUTSHORT, TURNIP_BADWORDS};
+static const uint32_t possible[] = {TURNIP_READ,      TURNIP_TOOLONG,   TURNIP_BADBYTE,    TURNIP_UNMATCHED,
+                                    TURNIP_UNCLOSED,  TURNIP_OVERFULL,  TURNIP_OUTSHORT,   TURNIP_EMPTYTOKEN,
+                                    TURNIP_LONGTOKEN, TURNIP_BADUTF8,   TURNIP_FORBIDDEN,  TURNIP_INNERBRACE,
+                                    TURNIP_BADWORDS};
 
 static const uint8_t no_words[4] = {0, 0, 0, 0};
 

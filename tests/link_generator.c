@@ -293,7 +293,8 @@ static void put_cells(struct maker *maker, size_t cells)
     }
 }
 
-/* A text that CHECK refuses with one of 13 to 16, or, of 4,097 cells, with 17; rarely with 11. */
+/* A text that CHECK refuses: with 17 for its 4,097 cells, rarely with 11, or for a fault among a few items. A token at one of its
+   edges may be right, and then so is the text. */
 static void put_bad_text(struct maker *maker)
 {
     static const char *const faulty[] = {
@@ -310,7 +311,10 @@ static void put_bad_text(struct maker *maker)
         return;
     }
     put_items(maker, below(maker->draws, 4));
-    put_string(maker->text, one_of(maker->draws, faulty, COUNT(faulty)));
+    if (one_in(maker->draws, 3))
+        add_edge_token(maker->draws, maker->text);
+    else
+        put_string(maker->text, one_of(maker->draws, faulty, COUNT(faulty)));
     put_items(maker, below(maker->draws, 4));
 }
 

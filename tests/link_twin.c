@@ -134,8 +134,8 @@ static void take_words(struct bytes bytes, struct list *list)
 
 /* ---- Texts to plans. ---- */
 
-/* The plan of a text that has none of 11 and 13 to 16 about it, so each { opens a token, and each ] closes a block. Items
-   may be any number at any depth, so it keeps its own stack of open blocks. */
+/* The plan of a text that has none of 11, 13, 15, 16 and 21 to 25 about it, so each { opens a token, and each ] closes a block.
+   Items may be any number at any depth, so it keeps its own stack of open blocks. */
 static struct plan plan_of(struct list *list, struct bytes text)
 {
     struct plan plan = {0};
@@ -359,7 +359,7 @@ static void write_linked(const struct sequence *linked, size_t cells, uint8_t *o
 }
 
 /* "Then 11 and 13 to 16 of the plan text, as they now stand; the text's own cells do not matter: then OVERFULL (17), place 0,
-   exactly when the linked plan has more than 4,096 cells" */
+   exactly when the linked plan has more than 4,096 cells". What was 14 is now 21 to 25, passed on with its place. */
 static void link_text(struct list *list, struct bytes text, uint8_t *out, size_t out_length, uint32_t answer[5])
 {
     struct twin_result read = twin_read(text.start, text.length);

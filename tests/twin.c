@@ -8,8 +8,9 @@
 #include <stdlib.h>
 #include <string.h>
 
-enum { DONE = 0, QUOTA = 1, FULL = 2, READ = 3, TOOLONG = 11, BADARENA = 12, BADBYTE = 13, BADTOKEN = 14 };
+enum { DONE = 0, QUOTA = 1, FULL = 2, READ = 3, TOOLONG = 11, BADARENA = 12, BADBYTE = 13 };
 enum { UNMATCHED = 15, UNCLOSED = 16, OVERFULL = 17, OUTSHORT = 18 };
+enum { EMPTYTOKEN = 21, LONGTOKEN = 22, BADUTF8 = 23, FORBIDDEN = 24, INNERBRACE = 25 };
 enum { TOKEN_LIMIT = 64, CELL_LIMIT = 4096, TEXT_LIMIT = 1048576 };
 
 struct item;
@@ -97,48 +98,108 @@ static uint32_t cells(const struct sequence *plan)
     return sum;
 }
 
-/* The code point that starts here, or -1 where none does (RFC 3629). */
+/* What a byte has instead of a code point. */
+enum { NO_CHARACTER = -1, NOT_FIRST = -2 };
+
+/* The code point that starts here, or NO_CHARACTER where none does (RFC 3629). */
 static long decode(const uint8_t *bytes, size_t left, size_t *width)
 {
     static const long least[] = {0, 0, 0x80, 0x800, 0x10000};
     uint8_t lead = bytes[0];
     *width = lead < 0x80 ? 1 : lead >> 5 == 6 ? 2 : lead >> 4 == 14 ? 3 : lead >> 3 == 30 ? 4 : 0;
     if (*width == 0 || *width > left)
-        return -1;
+        return NO_CHARACTER;
     long code = *width == 1 ? lead : lead & (0x7f >> *width);
     for (size_t i = 1; i < *width; i++) {
         if ((bytes[i] & 0xc0) != 0x80)
-            return -1;
+            return NO_CHARACTER;
         code = code * 64 + (bytes[i] & 0x3f);
     }
     bool surrogate = code >= 0xd800 && code <= 0xdfff;
-    return code < least[*width] || surrogate || code > 0x10ffff ? -1 : code;
+    return code < least[*width] || surrogate || code > 0x10ffff ? NO_CHARACTER : code;
 }
 
-/* "holds no {, no U+0000 to U+001F (so no LF), no U+007F to U+009F and no U+FFFD" */
-static bool in_token(long code)
-{
-    return code >= 0x20 && !(code >= 0x7f && code <= 0x9f) && code != 0xfffd && code != '{';
-}
+/* What a { opens, a token or none. Its bytes are told by their numbers, that { being byte 0: so the 64th is byte 63. */
+struct opened {
+    const uint8_t *bytes;
+    size_t left;             /* so many bytes, to the text's end */
+    bool closed;             /* there is a } */
+    size_t close;            /* "the first } after it"; the text's end where there is none */
+    long codes[TOKEN_LIMIT]; /* the character that begins at a byte; NOT_FIRST inside one, and behind what is none */
+};
 
-/* "The text between is at least one byte, well-formed UTF-8" */
-static bool allowed(const uint8_t *bytes, size_t length)
+static struct opened open_token(const uint8_t *bytes, size_t left)
 {
+    const uint8_t *close = memchr(bytes, '}', left);
+    struct opened token = {.bytes = bytes, .left = left, .closed = close != NULL};
+    token.close = token.closed ? (size_t)(close - bytes) : left;
+    for (size_t at = 0; at < TOKEN_LIMIT; at++)
+        token.codes[at] = NOT_FIRST;
     size_t width;
-    for (size_t at = 0; at < length; at += width)
-        if (!in_token(decode(bytes + at, length - at, &width)))
-            return false;
-    return length > 0;
+    for (size_t at = 1; at < token.close && at < TOKEN_LIMIT; at += width) {
+        token.codes[at] = decode(bytes + at, left - at, &width);
+        if (token.codes[at] == NO_CHARACTER)
+            break;
+    }
+    return token;
 }
 
-/* "from { to the first } after it, and is at most 64 bytes with both braces": how many, or 0 where it is not allowed. */
-static size_t token_length(const uint8_t *bytes, size_t left)
+/* "nothing between the braces": "the closing brace" */
+static bool empty_at(const struct opened *token, size_t at)
 {
-    const uint8_t *end = memchr(bytes, '}', left);
-    if (end == NULL)
-        return 0;
-    size_t length = (size_t)(end - bytes) + 1;
-    return length <= TOKEN_LIMIT && allowed(bytes + 1, length - 2) ? length : 0;
+    return token->closed && token->close == 1 && at == token->close;
+}
+
+/* "the token's 64th byte (its { is the first) is there and is not }, and no } stands before it": "that byte" */
+static bool too_long_at(const struct opened *token, size_t at)
+{
+    return at == TOKEN_LIMIT - 1 && at < token->left && token->bytes[at] != '}' && memchr(token->bytes, '}', at) == NULL;
+}
+
+/* "the text ends before that, with no }": "the text's end" */
+static bool ends_at(const struct opened *token, size_t at)
+{
+    return token->left < TOKEN_LIMIT && !token->closed && at == token->left;
+}
+
+/* "no well-formed character begins here": "its first byte" */
+static bool bad_utf8_at(const struct opened *token, size_t at)
+{
+    return at < token->close && token->codes[at] == NO_CHARACTER;
+}
+
+/* "a character that no token may hold", which is one of "U+0000 to U+001F (so no LF)", "U+007F to U+009F" and "U+FFFD": "its
+   first byte" */
+static bool forbidden_at(const struct opened *token, size_t at)
+{
+    long code = token->codes[at];
+    return at < token->close && ((code >= 0 && code <= 0x1f) || (code >= 0x7f && code <= 0x9f) || code == 0xfffd);
+}
+
+/* "a { in the token": "that {" */
+static bool inner_brace_at(const struct opened *token, size_t at)
+{
+    return at < token->close && token->bytes[at] == '{';
+}
+
+/* The table of a token's faults. "The first by place is given, and at one place 22 comes before every other", so it is above. */
+static const struct {
+    uint32_t number;
+    bool (*stands_at)(const struct opened *, size_t);
+} faults[] = {
+    {LONGTOKEN, too_long_at}, {LONGTOKEN, ends_at},      {EMPTYTOKEN, empty_at},
+    {BADUTF8, bad_utf8_at},   {FORBIDDEN, forbidden_at}, {INNERBRACE, inner_brace_at},
+};
+
+/* The number of a token's first fault, and the byte where it stands; 0 where there is none. "Every fault stands before the
+   first } behind the { (an empty token's at it)", and 22 at the 64th byte at the latest, so none is asked for further on. */
+static uint32_t first_fault(const struct opened *token, size_t *at)
+{
+    for (*at = 1; *at <= token->close && *at < TOKEN_LIMIT; ++*at)
+        for (size_t row = 0; row < sizeof faults / sizeof *faults; row++)
+            if (faults[row].stands_at(token, *at))
+                return faults[row].number;
+    return 0;
 }
 
 /* What reading keeps: every item in the order of their first bytes, the tree, and the blocks that are open. */
@@ -163,6 +224,20 @@ static void add(struct reader *reader, struct item *item)
     push(&reader->all, item);
 }
 
+/* "A token runs from { to the first } after it": how many bytes it has. Of one that is not allowed the fault is noted, and "the
+   place reported is the fault's own". */
+static size_t read_token(struct reader *reader, const uint8_t *text, size_t at, size_t text_length)
+{
+    struct opened token = open_token(text + at, text_length - at);
+    size_t length = token.close + 1, fault_at;
+    uint32_t fault = first_fault(&token, &fault_at);
+    if (fault != 0)
+        refuse(reader, fault, at + fault_at);
+    else
+        add(reader, new_token(token.bytes, length, (uint32_t)at));
+    return length;
+}
+
 /* Reads what starts at a byte, and says how many bytes it has. A fault is noted. */
 static size_t read_one(struct reader *reader, const uint8_t *text, size_t at, size_t text_length)
 {
@@ -184,11 +259,7 @@ static size_t read_one(struct reader *reader, const uint8_t *text, size_t at, si
             reader->open.count--;
         break;
     case '{':
-        length = token_length(text + at, text_length - at);
-        if (length == 0)
-            refuse(reader, BADTOKEN, at);
-        else
-            add(reader, new_token(text + at, length, (uint32_t)at));
+        length = read_token(reader, text, at, text_length);
         break;
     default:
         refuse(reader, BADBYTE, at);
@@ -196,7 +267,8 @@ static size_t read_one(struct reader *reader, const uint8_t *text, size_t at, si
     return length;
 }
 
-/* "Then 13, 14 and 15: whichever stands first from the left ... Then 16, 17" */
+/* "Then 13, 14 and 15: whichever stands first from the left ... Then 16, 17". What was 14 is now 21 to 25, and "whose fault comes
+   first against 13 and 15 stays by the place of the opening brace". */
 static void read_all(struct reader *reader, const uint8_t *text, size_t text_length, size_t most_cells)
 {
     for (size_t at = 0; at < text_length && reader->fault == 0;)

@@ -1,13 +1,16 @@
 #!/usr/bin/env python3
-"""Turns the cases of base.txt into the standard input of crates/vectors.
+"""Turns the cases of base.txt and faults.txt into the standard input of crates/vectors.
 
-    python3 tests/vectors-to-stdin.py BASE.TXT > crates/vectors/stdin
+    python3 tests/vectors-to-stdin.py BASE.TXT FAULTS.TXT > crates/vectors/stdin
 
-base.txt has a case a line, each kind with fields of its own:
+Both have a case a line, each kind with fields of its own, and RULES telling which requests the answer supposes:
 
-    check - TEXT = NUMBER STEPS CELLS LENGTH PLACE
-    tidy - TEXT OUTLEN = NUMBER STEPS CELLS LENGTH PLACE OUT
-    run - TEXT QUOTA MEMLEN OUTLEN = NUMBER STEPS CELLS LENGTH PLACE OUT
+    check RULES TEXT = NUMBER STEPS CELLS LENGTH PLACE
+    tidy RULES TEXT OUTLEN = NUMBER STEPS CELLS LENGTH PLACE OUT
+    run RULES TEXT QUOTA MEMLEN OUTLEN = NUMBER STEPS CELLS LENGTH PLACE OUT
+
+base.txt supposes none (`-`): its answers with 14 are changed to what they are since request 1 (name_faults.py). faults.txt
+supposes that one (`s`), and is taken as it stands. Lines of other kinds are left out.
 
 What is written has a case a line too, in the same order, and the same fields for every kind, so that one short proved
 reader serves all of them:
@@ -23,8 +26,10 @@ So `5b*3+5d` of base.txt is `2 3 5b 1 5d`, and `5b5d*2` is `1 4 5b5d`.
 import sys
 
 from base_form import runs
+from name_faults import renumbered
 
 KINDS = {"check": 1, "tidy": 2, "run": 3}
+BEFORE = "-"  # the rules of the time before request 1
 
 
 def bytes_form(field):
@@ -43,13 +48,21 @@ def line_form(kind, given, answer):
     return " ".join([str(KINDS[kind]), *lent, *numbers, bytes_form(text), bytes_form(out)])
 
 
-def main():
-    with open(sys.argv[1], encoding="ascii") as base:
-        for line in base:
-            kind, _, *fields = line.split()
+def cases(name):
+    """The cases of a file: the kind of each, what is given, and the answer as it is now."""
+    with open(name, encoding="ascii") as lines:
+        for line in lines:
+            kind, rules, *fields = line.split()
             if kind in KINDS:
                 middle = fields.index("=")
-                print(line_form(kind, fields[:middle], fields[middle + 1 :]))
+                given, answer = fields[:middle], fields[middle + 1 :]
+                yield kind, given, renumbered(given, answer) if rules == BEFORE else answer
+
+
+def main():
+    for name in sys.argv[1:]:
+        for case in cases(name):
+            print(line_form(*case))
 
 
 main()

@@ -1,9 +1,11 @@
 -- The five numbers tell the answer: a refusal from an ending, and which refusal, by its number and its place.
 use Prim.Native.Nat.{ℕ, _≤_, _<_}
 use mathlib.Core.Path.{_≡_, refl, ap, sym, _∙_}
+use mathlib.Core.Logic.{_≢_}
 use mathlib.Core.Bool.{cond}
 use native.Mathlib.Omega.{arith}
 use lib.Dec.{eqb}
+use borrow.Author.Tests.{ne-eqb}
 use Rattle.plan.specs.declared.Answer.{Answer}
 use Rattle.plan.specs.declared.Answer.the-variants.{Ran, Read, Refused}
 use Rattle.plan.specs.declared.Ending.{Ending}
@@ -11,11 +13,13 @@ use Rattle.plan.specs.declared.Ending.the-variants.{Done, Quota, Full}
 use Rattle.plan.specs.declared.Numbers.{Numbers}
 use Rattle.plan.specs.declared.Refusal.{Refusal}
 use Rattle.plan.specs.declared.Refusal.the-variants.{Text, BadArena, Overfull, OutShort}
+use Rattle.plan.specs.declared.TokenFault.{TokenFault}
+use Rattle.plan.specs.declared.TokenFault.the-variants.{Empty, Long, BadUtf8, Forbidden, InnerBrace}
 use Rattle.plan.specs.declared.TextFault.{TextFault}
 use Rattle.plan.specs.declared.TextFault.the-variants.{TooLong, BadByte, BadToken, Unmatched, Unclosed}
 use Rattle.plan.specs.Reading.{place}
-use Rattle.plan.specs.Services.{ending-number, fault-number, numbers, refusal-number, refusal-place}
-use Rattle.demands.specs.Words.{DONE, FULL, IsRefusal, QUOTA, READ, refusal}
+use Rattle.plan.specs.Services.{ending-number, fault-number, fault-place, numbers, refusal-number, refusal-place, token-fault-number}
+use Rattle.demands.specs.Words.{DONE, FULL, IsRefusal, OUTSHORT, OVERFULL, QUOTA, READ, refusal}
 
 pub ending-at-most : (e : Ending) → ending-number e ≤ FULL
 ending-at-most Done = omega arith
@@ -35,37 +39,68 @@ same-ending e d h = sym (with-its-number e) ∙ ap ending-with h ∙ with-its-nu
     with-its-number Quota = refl
     with-its-number Full = refl
 
--- a refusal's number is none of an unrefused call's
-fault-over : (f : TextFault) → READ < fault-number f
-fault-over TooLong = omega arith
-fault-over (BadByte at) = omega arith
-fault-over (BadToken at) = omega arith
-fault-over (Unmatched at) = omega arith
-fault-over (Unclosed at) = omega arith
+-- a token's faults have the numbers 21 to 25, and no fault of a text has the number of another refusal; 14 is never given again
+pub token-fault-range : (f : TokenFault) → (21 ≤ token-fault-number f) × (token-fault-number f ≤ 25)
+token-fault-range Empty = omega arith
+token-fault-range Long = omega arith
+token-fault-range BadUtf8 = omega arith
+token-fault-range Forbidden = omega arith
+token-fault-range InnerBrace = omega arith
 
+-- `Apart n`: a number from 11 to 25, but not 12, 14, 17 or 18
+abbrev pub Apart : ℕ → Type 0
+Apart n = (11 ≤ n) × (n ≤ 25) × (n ≢ 12) × (n ≢ 14) × (n ≢ OVERFULL) × (n ≢ OUTSHORT)
+
+pub fault-apart : (f : TextFault) → Apart (fault-number f)
+fault-apart TooLong = (omega arith, omega arith, λ e. omega arith, λ e. omega arith, λ e. omega arith, λ e. omega arith)
+fault-apart (BadByte at) = (omega arith, omega arith, λ e. omega arith, λ e. omega arith, λ e. omega arith, λ e. omega arith)
+fault-apart (BadToken f at) =
+    let r = token-fault-range f in
+    (omega arith, r .1, λ e. omega (arith, r), λ e. omega (arith, r), λ e. omega (arith, r), λ e. omega (arith, r))
+fault-apart (Unmatched at) = (omega arith, omega arith, λ e. omega arith, λ e. omega arith, λ e. omega arith, λ e. omega arith)
+fault-apart (Unclosed at) = (omega arith, omega arith, λ e. omega arith, λ e. omega arith, λ e. omega arith, λ e. omega arith)
+
+-- a refusal's number is none of an unrefused call's
 pub refusal-over : (x : Refusal) → READ < refusal-number x
-refusal-over (Text f) = fault-over f
+refusal-over (Text f) = omega (arith, fault-apart f .0)
 refusal-over BadArena = omega arith
 refusal-over (Overfull at) = omega arith
 refusal-over (OutShort needed) = omega arith
 
--- the refusal with that number and place
+-- the fault, or the refusal, with that number and place
+token-fault-with : ℕ → TokenFault
+token-fault-with number =
+    cond (eqb number 21) Empty (cond (eqb number 22) Long (cond (eqb number 23) BadUtf8 (cond (eqb number 24) Forbidden InnerBrace)))
+
+pub fault-with : (number at : ℕ) → TextFault
+fault-with number at =
+    cond (eqb number 11) TooLong
+    (cond (eqb number 13) (BadByte (place at))
+    (cond (eqb number 15) (Unmatched (place at))
+    (cond (eqb number 16) (Unclosed (place at)) (BadToken (token-fault-with number) (place at)))))
+
+pub fault-with-its-own : (f : TextFault) → fault-with (fault-number f) (fault-place f) ≡ f
+unfolding fault-with token-fault-with
+fault-with-its-own TooLong = refl
+fault-with-its-own (BadByte at) = refl
+fault-with-its-own (BadToken Empty at) = refl
+fault-with-its-own (BadToken Long at) = refl
+fault-with-its-own (BadToken BadUtf8 at) = refl
+fault-with-its-own (BadToken Forbidden at) = refl
+fault-with-its-own (BadToken InnerBrace at) = refl
+fault-with-its-own (Unmatched at) = refl
+fault-with-its-own (Unclosed at) = refl
+
 refusal-with : (number at : ℕ) → Refusal
 refusal-with number at =
-    cond (eqb number 11) (Text TooLong)
-    (cond (eqb number 12) BadArena
-    (cond (eqb number 13) (Text (BadByte (place at)))
-    (cond (eqb number 14) (Text (BadToken (place at)))
-    (cond (eqb number 15) (Text (Unmatched (place at)))
-    (cond (eqb number 16) (Text (Unclosed (place at))) (cond (eqb number 17) (Overfull (place at)) (OutShort at)))))))
+    cond (eqb number 12) BadArena
+    (cond (eqb number OVERFULL) (Overfull (place at)) (cond (eqb number OUTSHORT) (OutShort at) (Text (fault-with number at))))
 
 with-its-own : (x : Refusal) → refusal-with (refusal-number x) (refusal-place x) ≡ x
 unfolding refusal-with
-with-its-own (Text TooLong) = refl
-with-its-own (Text (BadByte at)) = refl
-with-its-own (Text (BadToken at)) = refl
-with-its-own (Text (Unmatched at)) = refl
-with-its-own (Text (Unclosed at)) = refl
+with-its-own (Text f) =
+    let a = fault-apart f in
+    rw (ne-eqb _ _ (a .2), ne-eqb _ _ (a .4), ne-eqb _ _ (a .5)) (ap Text (fault-with-its-own f))
 with-its-own BadArena = refl
 with-its-own (Overfull at) = refl
 with-its-own (OutShort needed) = refl
@@ -80,3 +115,12 @@ same-refusal (Refused y) x h =
 
 pub is-refusal : (r : Answer) → IsRefusal r → (x : Refusal) × (r ≡ Refused x)
 is-refusal r h = (h .0, same-refusal r (h .0) (h .1))
+
+-- "Number 14 is never given again"
+pub fourteen-never-given : (r : Answer) → numbers r .number ≢ 14
+fourteen-never-given (Ran e steps c l) h = omega (arith, ending-at-most e)
+fourteen-never-given (Read c l) h = omega arith
+fourteen-never-given (Refused (Text f)) h = fault-apart f .3 h
+fourteen-never-given (Refused BadArena) h = omega arith
+fourteen-never-given (Refused (Overfull at)) h = omega arith
+fourteen-never-given (Refused (OutShort needed)) h = omega arith

@@ -31,18 +31,19 @@ use Rattle.demands.proofs.Cases.{
   tidy-case,
 }
 use Rattle.demands.proofs.Meanings.{ends-sound, reads-not-refused, sound-back, sound-cells, sound-length}
-use Rattle.demands.proofs.Numbers.{ending-at-most}
+use Rattle.demands.proofs.Numbers.{ending-at-most, token-fault-range}
 
--- rows 11 to 17 have the numbers 11 to 17, and 11 is not for a text within its limit
+-- no row of a text has the number 18, and 11 is not for a text within its limit
 row-number : {n : ℕ} {text : List ℕ} {x : Refusal} → Refuses standard n text x
-    → (refusal-number x ≤ OVERFULL) × (length text ≤ textLimit → refusal-number x ≢ TOOLONG)
-row-number (too-long h) = (omega arith, λ short e. omega arith)
-row-number (bad-arena h g) = (omega arith, λ short e. omega arith)
-row-number (bad-row h g (fault before rest b split f (bad-byte c))) = (omega arith, λ short e. omega arith)
-row-number (bad-row h g (fault before rest b split f (bad-token c t))) = (omega arith, λ short e. omega arith)
-row-number (bad-row h g (fault before rest b split f (unmatched c))) = (omega arith, λ short e. omega arith)
-row-number (bad-row h g (unclosed f)) = (omega arith, λ short e. omega arith)
-row-number (bad-row h g (overfull before rest b split f i w)) = (omega arith, λ short e. omega arith)
+    → (refusal-number x ≢ OUTSHORT) × (length text ≤ textLimit → refusal-number x ≢ TOOLONG)
+row-number (too-long h) = (λ e. omega arith, λ short e. omega arith)
+row-number (bad-arena h g) = (λ e. omega arith, λ short e. omega arith)
+row-number (bad-row h g (fault before rest b split f (bad-byte c))) = (λ e. omega arith, λ short e. omega arith)
+row-number (bad-row h g (fault before rest b split f (bad-token {f = t} c first))) =
+    (λ e. omega (arith, token-fault-range t), λ short e. omega (arith, token-fault-range t))
+row-number (bad-row h g (fault before rest b split f (unmatched c))) = (λ e. omega arith, λ short e. omega arith)
+row-number (bad-row h g (unclosed f)) = (λ e. omega arith, λ short e. omega arith)
+row-number (bad-row h g (overfull before rest b split f i w)) = (λ e. omega arith, λ short e. omega arith)
 
 module _ {text : List ℕ} {quota : ℕ} {memory out : List ℕ} {r : Answer} {memory′ out′ : List ℕ}
     (call : Runs text quota memory out r memory′ out′) where
@@ -51,7 +52,7 @@ module _ {text : List ℕ} {quota : ℕ} {memory out : List ℕ} {r : Answer} {m
   output-long-enough room = go (run-case call)
     where
       go : {r : Answer} {out′ : List ℕ} → RunCase (lent memory) quota text out r out′ → numbers r .number ≢ OUTSHORT
-      go (bad-text {x} g) e = omega (arith, row-number (refuses-iff standard (lent memory) text x .0 g) .0)
+      go (bad-text {x} g) e = row-number (refuses-iff standard (lent memory) text x .0 g) .0 e
       go (out-short g short) e = omega (arith, sound-length (ends-sound g), sound-cells (ends-sound g) .0)
       go (ended {e = d} g fits) e = omega (arith, ending-at-most d)
 

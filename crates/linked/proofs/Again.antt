@@ -3,7 +3,7 @@ use Prim.Native.Nat.{ℕ, _≤_, _<_}
 use mathlib.Core.Path.{_≡_, refl, ap, ap₂, sym, subst, _∙_}
 use mathlib.Core.List.{List}
 use native.Mathlib.Omega.{arith}
-use borrow.Author.Tests.{le-leb, lt-leb, lt-ltb, le-ltb}
+use borrow.Author.Tests.{le-leb, lt-leb, lt-ltb, le-ltb, ne-eqb}
 use lib.ListN.{length}
 use Rattle.kinds.specs.Limits.{cellLimit, textLimit}
 use Rattle.plan.specs.declared.Answer.{Answer}
@@ -11,11 +11,10 @@ use Rattle.plan.specs.declared.Answer.the-variants.{Refused}
 use Rattle.plan.specs.declared.Numbers.{Numbers}
 use Rattle.plan.specs.declared.Refusal.the-variants.{Text as BadText}
 use Rattle.plan.specs.declared.TextFault.{TextFault}
-use Rattle.plan.specs.declared.TextFault.the-variants.{TooLong, BadByte, BadToken, Unmatched, Unclosed}
 use Rattle.plan.specs.Pieces.{placed}
 use Rattle.plan.specs.Plan.{Plan, bare, cells, print}
 use Rattle.plan.specs.Reading.{REFUSED, fit, read}
-use Rattle.plan.specs.Services.{accept, as-read, numbers, reads, standard, tidy, write}
+use Rattle.plan.specs.Services.{accept, as-read, fault-number, numbers, reads, standard, tidy, write}
 use Rattle.plan.proofs.ReadBack.{bare-placed}
 use Rattle.services.specs.Calls.{Tidies}
 use Rattle.words.specs.Answers.{link-numbers}
@@ -24,7 +23,8 @@ use Rattle.words.specs.declared.LinkAnswer.{LinkAnswer}
 use Rattle.words.specs.declared.LinkRefusal.the-variants.{Text}
 use Rattle.words.proofs.Listing.{link-again}
 use Rattle.linking.specs.Calls.{Links}
-use Rattle.demands.specs.Words.{READ}
+use Rattle.demands.specs.Words.{OVERFULL, READ}
+use Rattle.demands.proofs.Numbers.{fault-apart}
 use Rattle.linked.specs.Lists.{HasWords}
 use Rattle.linked.specs.Table.{Faulty, LinkedAs, row-11, rows-13-to-16}
 use Rattle.linked.specs.Words.{IsLinked, HasPlan, linked-by, no-words, placeless, refusal, saved}
@@ -52,11 +52,7 @@ fault-refused {text} (rows-13-to-16 n short row) = rw (le-ltb textLimit (length 
 
 -- and tells the same five numbers of it
 fault-told : (f : TextFault) → refusal (Text f) ≡ placeless (numbers (Refused (BadText f)))
-fault-told TooLong = refl
-fault-told (BadByte at) = refl
-fault-told (BadToken at) = refl
-fault-told (Unmatched at) = refl
-fault-told (Unclosed at) = refl
+fault-told f = rw (ne-eqb (fault-number f) OVERFULL (fault-apart f .4))
 
 -- "Linking by the empty list gives what TIDY gives, but for OVERFULL's place, which is 0": the same five numbers and the same bytes
 pub no-words-is-tidy : {text out : List ℕ} {r : LinkAnswer} {s : Answer} {a b : List ℕ}

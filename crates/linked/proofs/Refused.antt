@@ -34,7 +34,8 @@ use Rattle.linked.proofs.Cases.{
   over-full,
 }
 use Rattle.linked.proofs.Lists.{not-both, one-rank, one-stock}
-use Rattle.linked.proofs.Numbers.{fault-under, refusal-over, same-refusal}
+use Rattle.demands.proofs.Numbers.{fault-apart}
+use Rattle.linked.proofs.Numbers.{refusal-over, same-refusal}
 
 -- every call is answered: it links its text, or is refused
 pub every-link-answered : (list text out : List ℕ) → (r : LinkAnswer) × (out′ : List ℕ) × Links list text out r out′
@@ -119,7 +120,7 @@ module _ {list text out : List ℕ} {r : LinkAnswer} {out′ : List ℕ} (call :
     where
       to : {r : LinkAnswer} {out′ : List ℕ} → LinkCase list text out r out′ → link-numbers r .number ≡ BADWORDS → BadList list (link-numbers r .place)
       to (bad-list bad) e = bad
-      to (bad-text {f = f} has bad) e = absurd (omega (arith, fault-under f))
+      to (bad-text {f = f} has bad) e = absurd (omega (arith, fault-apart f .1))
       to (over-full has reads over) e = absurd (omega arith)
       to (out-short has reads few short) e = absurd (omega arith)
       to (is-linked has reads few fits) e = absurd (omega arith)

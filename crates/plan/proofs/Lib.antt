@@ -4,6 +4,7 @@ pub mod Classes
 pub mod Faultless
 pub mod Frames
 pub mod Leftmost
+pub mod MayHold
 pub mod Numbered
 pub mod Options
 pub mod Pieces
@@ -14,7 +15,9 @@ pub mod Refusals
 pub mod Rewrites
 pub mod Runs
 pub mod Slots
+pub mod Taken
 pub mod Tests
+pub mod TokenFaults
 pub mod Tokens
 pub mod Utf8
 pub mod Windows

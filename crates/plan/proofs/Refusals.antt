@@ -60,6 +60,7 @@ use Rattle.plan.specs.Refusals.{
 }
 use Rattle.plan.proofs.Options.{Each}
 use Rattle.plan.proofs.Plans.{length-labels}
+use Rattle.plan.proofs.TokenFaults.{fault-no-token, first-met, met-first}
 use Rattle.plan.proofs.Tokens.{token-text-finds}
 use Rattle.plan.specs.Pieces.{Found, pieces, starts, so-far}
 use Rattle.plan.proofs.Pieces.{first-start, labels-pieces, starts-append}
@@ -94,9 +95,9 @@ module _ (limit at b : ℕ) (bs : List ℕ)
   then-read out here skip = read-from limit (suc at) skip out here bs
 
   by-token : (out : Around) (here : Plan ℕ) (o : Option (List ℕ)) → class b ≡ BRACE → token-text limit bs ≡ o → Each (Found limit bs) o
-      → Verdict limit at (depth out) (b ∷ bs) (go-on (past-token at o out here) then-read)
+      → Verdict limit at (depth out) (b ∷ bs) (go-on (past-token limit at bs o out here) then-read)
   unfolding go-on past-token
-  by-token out here none c e s = stopped [] bs b {at = at} refl nothing (bad-token c e) (omega arith)
+  by-token out here none c e s = stopped [] bs b {at = at} refl nothing (bad-token c (first-met limit bs e)) (omega arith)
   by-token out here (some t) c e s =
       let after = here then token at t end in
       let there = further (suc (length t)) out after (at + suc (suc (length t))) (omega arith)
@@ -207,7 +208,7 @@ fault-stops : {limit at b d : ℕ} {rest : List ℕ} {r : TextFault} (out : Arou
     → read-from limit at 0 out here (b ∷ rest) ≡ REFUSED (Text r)
 unfolding read-from go-on move past-token
 fault-stops out here h (bad-byte c) = rw c
-fault-stops out here h (bad-token c e) = rw (c, e)
+fault-stops out here h (bad-token c first) = rw (c, fault-no-token (first .stands), met-first first)
 fault-stops outermost here h (unmatched c) = rw c
 fault-stops (inside l before out) here h (unmatched c) = absurd (omega arith)
 

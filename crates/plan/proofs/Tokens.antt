@@ -27,7 +27,7 @@ may-not-hold-brace : may-hold close-brace ≡ false
 unfolding may-hold
 may-not-hold-brace = refl
 
-permits-parts : (c : Character) (after : ℕ → Bool) → permits c after ≡ true → (v : ℕ) × (w : ℕ) × (c ≡ Whole v w) × (may-hold v ≡ true) × (after (w - 1) ≡ true)
+pub permits-parts : (c : Character) (after : ℕ → Bool) → permits c after ≡ true → (v : ℕ) × (w : ℕ) × (c ≡ Whole v w) × (may-hold v ≡ true) × (after (w - 1) ≡ true)
 unfolding permits
 permits-parts Malformed after e = false-is-not-true e
 permits-parts (Whole v w) after e =

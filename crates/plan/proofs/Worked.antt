@@ -1,15 +1,34 @@
--- The worked plans hold of the definitions, from the bytes of the text to the five numbers and every byte of the output.
+-- The worked plans and tokens hold of the definitions, from the bytes of the text to the five numbers and every byte of the output.
 use mathlib.Core.Path.{_≡_, refl}
-use mathlib.Core.List.{map}
+use mathlib.Core.List.{[], _∷_, map}
+use lib.ListN.{replicate}
+use Rattle.kinds.specs.Limits.{tokenLimit}
+use Rattle.plan.specs.declared.TokenFault.the-variants.{Empty, Long, BadUtf8, Forbidden, InnerBrace}
 use Rattle.plan.specs.Plan.{_then_, cells, labels, letter, print}
 use Rattle.plan.specs.Token.{follows, scalar, value, well-formed, all-permitted, allowed, before-brace, character, if-allowed, may-hold, permits, token-text}
+use Rattle.plan.specs.TokenFaults.{FirstFault, first-fault, meet, unheld}
 use Rattle.plan.specs.Reading.{class, fit, go-on, move, past-token, read, read-from}
 use Rattle.plan.specs.Options.{_else_, under}
 use Rattle.plan.specs.Rewriting.{after-two, first-block, inner, next, outer}
 use Rattle.plan.specs.Running.{ask, one-more, run-plan, turn}
 use Rattle.plan.specs.Services.{accept, as-run, run, run-read, runs, write}
 use Rattle.plan.specs.Worked.{answered, bytes, expected, sheet, worked}
+use Rattle.plan.specs.WorkedTokens.{worked-tokens}
+use Rattle.plan.proofs.TokenFaults.{first-met}
 
 pub worked-plans : map answered worked ≡ map expected worked
 unfolding answered expected sheet run runs run-read as-run accept write read read-from go-on move past-token fit class token-text if-allowed before-brace allowed all-permitted permits may-hold character value follows scalar well-formed cells labels print letter _then_ run-plan turn ask one-more next outer inner first-block after-two under _else_ worked bytes
 worked-plans = refl
+
+pub worked-names : map answered worked-tokens ≡ map expected worked-tokens
+unfolding worked-plans first-fault meet unheld worked-tokens
+worked-names = refl
+
+-- No row of the table of faults is empty: a token of which each is the first. The text's end, and a byte that is too many, are both 22.
+pub each-fault-stands :
+    FirstFault tokenLimit (bytes "}") 0 Empty × FirstFault tokenLimit (bytes "x") 1 Long × FirstFault tokenLimit (replicate 63 0x78) 62 Long
+    × FirstFault tokenLimit (0x78 ∷ 0xC3 ∷ 0x7D ∷ []) 1 BadUtf8 × FirstFault tokenLimit (0x78 ∷ 0xC2 ∷ 0x9F ∷ 0x7D ∷ []) 1 Forbidden
+    × FirstFault tokenLimit (bytes "x{}") 1 InnerBrace
+unfolding worked-names
+each-fault-stands =
+    (first-met _ _ refl, first-met _ _ refl, first-met _ _ refl, first-met _ _ refl, first-met _ _ refl, first-met _ _ refl)

@@ -12,4 +12,6 @@ pub mod Running
 pub mod Services
 pub mod Slots
 pub mod Token
+pub mod TokenFaults
 pub mod Worked
+pub mod WorkedTokens

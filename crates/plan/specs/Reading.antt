@@ -1,6 +1,6 @@
 -- Reading a text: the plan, each item labelled with the place of its first byte, or the refusal. Document 01, the table
--- of bytes and refusals 13 to 17.
-use Prim.Native.Nat.{ℕ, zero, suc}
+-- of bytes and refusals 13 to 17, and the faults of a token.
+use Prim.Native.Nat.{ℕ, zero, suc, _+_, _-_}
 use mathlib.Core.Path.{_≡_}
 use mathlib.Core.Logic.{_≢_, _⊎_}
 use mathlib.Core.Bool.{Bool, true, false, cond, not, _||_}
@@ -34,6 +34,7 @@ use Rattle.plan.specs.Plan.{
   close-brace,
 }
 use Rattle.plan.specs.Token.{token-text}
+use Rattle.plan.specs.TokenFaults.{Met, first-fault}
 pub use Rattle.plan.specs.declared.Class.{Class}
 pub use Rattle.plan.specs.declared.Class.the-variants.{
   Operator as OPERATOR,
@@ -81,16 +82,20 @@ pub data Move : Type 0 where
   STOP : TextFault → Move
   ON : Around → Plan ℕ → ℕ → Move
 
-unfoldable pub past-token : (at : ℕ) → Option (List ℕ) → Around → Plan ℕ → Move
-past-token at none out here = STOP (BadToken (place at))
-past-token at (some t) out here = ON out (here then token at t end) (suc (length t))
+-- a token's fault, at its own place: behind the `{`, which stands at the place `at`
+abbrev pub faulty-token : (at : ℕ) → Met → TextFault
+faulty-token at m = BadToken (m .fault) (place (suc at + m .byte))
+
+unfoldable pub past-token : (limit at : ℕ) → List ℕ → Option (List ℕ) → Around → Plan ℕ → Move
+past-token limit at rest none out here = STOP (faulty-token at (first-fault 0 (limit - 2) 0 rest))
+past-token limit at rest (some t) out here = ON out (here then token at t end) (suc (length t))
 
 unfoldable pub move : (limit at : ℕ) → Class → List ℕ → Around → Plan ℕ → Move
 move limit at (OPERATOR o) rest out here = ON out (here then operator at o end) 0
 move limit at OPEN rest out here = ON (inside at here out) end 0
 move limit at CLOSE rest outermost here = STOP (Unmatched (place at))
 move limit at CLOSE rest (inside l before out) here = ON out (before then block l here end) 0
-move limit at BRACE rest out here = past-token at (token-text limit rest) out here
+move limit at BRACE rest out here = past-token limit at rest (token-text limit rest) out here
 move limit at BLANK rest out here = ON out here 0
 move limit at BAD rest out here = STOP (BadByte (place at))
 

@@ -1,16 +1,17 @@
--- The table's rows 11 to 17, "given exactly when" and "place", said of the text itself and not of a reader.
-use Prim.Native.Nat.{ℕ, suc, _≤_, _<_}
+-- The table's rows 11 to 17, with 21 to 25 for 14, "given exactly when" and "place", said of the text itself and not of a reader.
+use Prim.Native.Nat.{ℕ, suc, _+_, _≤_, _<_}
 use mathlib.Core.Path.{_≡_}
 use mathlib.Core.Bool.{true}
-use mathlib.Core.Option.{none}
 use mathlib.Core.List.{List, [], _∷_, _++_}
 use lib.ListN.{length}
 use Rattle.plan.specs.declared.Refusal.{Refusal}
 use Rattle.plan.specs.declared.Refusal.the-variants.{Text, BadArena, Overfull}
+use Rattle.plan.specs.declared.TokenFault.{TokenFault}
 use Rattle.plan.specs.declared.TextFault.{TextFault}
 use Rattle.plan.specs.declared.TextFault.the-variants.{TooLong, BadByte, BadToken, Unmatched, Unclosed}
 use Rattle.plan.specs.Plan.{Operator, close-brace}
-use Rattle.plan.specs.Token.{allowed, token-text}
+use Rattle.plan.specs.Token.{allowed}
+use Rattle.plan.specs.TokenFaults.{FirstFault}
 use Rattle.plan.specs.Services.{Limits}
 use Rattle.plan.specs.Reading.{Class, OPERATOR, OPEN, CLOSE, BRACE, BLANK, BAD, class, place}
 
@@ -32,7 +33,7 @@ pub data Faultless (limit : ℕ) : ℕ → List ℕ → ℕ → ℕ → Type 0 w
 -- the faults of one byte at the place `at`, with d blocks open and `rest` after it
 pub data Fault (limit at : ℕ) (b : ℕ) (rest : List ℕ) : ℕ → TextFault → Type 0 where
   bad-byte : {d : ℕ} → class b ≡ BAD → Fault limit at b rest d (BadByte (place at))
-  bad-token : {d : ℕ} → class b ≡ BRACE → token-text limit rest ≡ none → Fault limit at b rest d (BadToken (place at))
+  bad-token : {d i : ℕ} {f : TokenFault} → class b ≡ BRACE → FirstFault limit rest i f → Fault limit at b rest d (BadToken f (place (suc at + i)))
   unmatched : class b ≡ CLOSE → Fault limit at b rest 0 (Unmatched (place at))
 
 -- the classes of an item's first byte

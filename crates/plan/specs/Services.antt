@@ -12,29 +12,38 @@ use Rattle.plan.specs.declared.Ending.the-variants.{Done, Quota, Full}
 use Rattle.plan.specs.declared.Numbers.{Numbers}
 use Rattle.plan.specs.declared.Refusal.{Refusal}
 use Rattle.plan.specs.declared.Refusal.the-variants.{Text, BadArena, Overfull, OutShort}
+use Rattle.plan.specs.declared.TokenFault.{TokenFault}
+use Rattle.plan.specs.declared.TokenFault.the-variants.{Empty, Long, BadUtf8, Forbidden, InnerBrace}
 use Rattle.plan.specs.declared.TextFault.{TextFault}
 use Rattle.plan.specs.declared.TextFault.the-variants.{TooLong, BadByte, BadToken, Unmatched, Unclosed}
 use Rattle.plan.specs.Plan.{cells, print}
 use Rattle.plan.specs.Reading.{Reading, PLAN, REFUSED, read}
 use Rattle.plan.specs.Running.{Ran as Run, RAN, run-plan}
 
--- the numbers of document 01's table for each case of an answer
+-- the numbers of document 01's table for each case of an answer; 14 is split by request 1 of document 02
 abbrev pub ending-number : Ending → ℕ
 ending-number Done = 0
 ending-number Quota = 1
 ending-number Full = 2
 
+abbrev pub token-fault-number : TokenFault → ℕ
+token-fault-number Empty = 21
+token-fault-number Long = 22
+token-fault-number BadUtf8 = 23
+token-fault-number Forbidden = 24
+token-fault-number InnerBrace = 25
+
 abbrev pub fault-number : TextFault → ℕ
 fault-number TooLong = 11
 fault-number (BadByte at) = 13
-fault-number (BadToken at) = 14
+fault-number (BadToken f at) = token-fault-number f
 fault-number (Unmatched at) = 15
 fault-number (Unclosed at) = 16
 
 abbrev pub fault-place : TextFault → ℕ
 fault-place TooLong = 0
 fault-place (BadByte at) = at .0
-fault-place (BadToken at) = at .0
+fault-place (BadToken f at) = at .0
 fault-place (Unmatched at) = at .0
 fault-place (Unclosed at) = at .0
 

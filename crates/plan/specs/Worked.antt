@@ -1,13 +1,12 @@
 -- The plans of document 01, "Plans to try", P1 to P12, and rows more that tell the feared slips apart where those do not:
--- FULL at quota 0, P11 at quota 2, the places of 16 and 17, and what a token may hold.
-use Prim.Native.Nat.{ℕ, _*_, _-_}
+-- FULL at quota 0, P11 at quota 2, and the places of 16 and 17. WorkedTokens.antt has the rows of tokens.
+use Prim.Native.Nat.{ℕ, _*_}
 use Prim.Native.Char.{code}
 use Prim.Native.String.{String, [] as empty, _∷_ as _then-char_}
 use mathlib.Core.List.{List, [], _∷_, _++_}
 use lib.ListN.{length, drop, replicate}
-use Rattle.kinds.specs.Limits.{cellLimit, cellNumbers, tokenLimit}
+use Rattle.kinds.specs.Limits.{cellLimit, cellNumbers}
 use Rattle.plan.specs.declared.Numbers.{Numbers}
-use Rattle.plan.specs.Plan.{open-brace, close-brace}
 use Rattle.plan.specs.Services.{numbers, run, standard}
 
 pub record WorkedRow : Type 0 where
@@ -37,17 +36,6 @@ row text quota cells number steps resulting length place printed =
       printed = bytes printed;
     }
 
--- one token, by the bytes between its braces: read and printed as it stands, or refused
-abbrev pub braced : List ℕ → List ℕ
-braced bs = open-brace ∷ (bs ++ close-brace ∷ [])
-
-abbrev pub token-read : List ℕ → WorkedRow
-token-read bs =
-    record { text = braced bs; quota = 0; cells = 1; numbers = five 0 0 1 (length (braced bs)) 0; printed = braced bs }
-
-abbrev pub token-refused : List ℕ → WorkedRow
-token-refused bs = record { text = braced bs; quota = 0; cells = 1; numbers = five 14 0 0 0 0; printed = [] }
-
 unfoldable pub worked : List WorkedRow
 worked =
     row "" 100 0 0 0 0 0 0 "" ∷
@@ -65,22 +53,7 @@ worked =
     row "[c[][]baad]c[][]baad" 0 21 2 0 15 20 0 "[c[][]baad]c[][]baad" ∷
     row "[[]d]c" 2 cellLimit 1 2 4 7 0 "[][[]d]" ∷
     row "[[]" 100 cellLimit 16 0 0 0 3 "" ∷
-    row "[c[][]baad]c[][]baad" 100 14 17 0 0 0 19 "" ∷
-    token-read (0x20 ∷ []) ∷
-    token-read (replicate (tokenLimit - 2) 0x78) ∷
-    token-read (0xC2 ∷ 0xA0 ∷ []) ∷
-    token-read (0xEF ∷ 0xBF ∷ 0xBC ∷ []) ∷
-    token-read (0xF4 ∷ 0x8F ∷ 0xBF ∷ 0xBF ∷ []) ∷
-    token-refused [] ∷
-    token-refused (replicate (tokenLimit - 1) 0x78) ∷
-    token-refused (open-brace ∷ []) ∷
-    token-refused (0x1F ∷ []) ∷
-    token-refused (0x7F ∷ []) ∷
-    token-refused (0xC2 ∷ 0x9F ∷ []) ∷
-    token-refused (0xEF ∷ 0xBF ∷ 0xBD ∷ []) ∷
-    token-refused (0xC1 ∷ 0xBF ∷ []) ∷
-    token-refused (0xED ∷ 0xA0 ∷ 0x80 ∷ []) ∷
-    token-refused (0xF4 ∷ 0x90 ∷ 0x80 ∷ 0x80 ∷ []) ∷ []
+    row "[c[][]baad]c[][]baad" 100 14 17 0 0 0 19 "" ∷ []
 
 -- what an answer and an output say, outputs being 70 bytes that each held 7
 pub record Told : Type 0 where

@@ -3,7 +3,7 @@ ghost use mathlib.Core.Path.{_≡_};
 ghost use Rattle.plan.specs.Leftmost.{takes};
 ghost use Rattle.plan.specs.Numbered.{operator-number, operator-of, class-of};
 ghost use Rattle.plan.specs.Plan.{letter};
-ghost use Rattle.plan.specs.Services.{ending-number, fault-number, fault-place, refusal-number, refusal-place, numbers};
+ghost use Rattle.plan.specs.Services.{ending-number, token-fault-number, fault-number, fault-place, refusal-number, refusal-place, numbers};
 use kinds::Place;
 
 pub enum Operator {
@@ -36,11 +36,20 @@ pub enum Ending {
     Full,
 }
 
+// What is wrong with a token.
+pub enum TokenFault {
+    Empty,
+    Long,
+    BadUtf8,
+    Forbidden,
+    InnerBrace,
+}
+
 // What is wrong with a text, with the place of the fault: every family of services that reads a text shares these.
 pub enum TextFault {
     TooLong,
     BadByte(Place),
-    BadToken(Place),
+    BadToken { fault: TokenFault, at: Place },
     Unmatched(Place),
     Unclosed(Place),
 }
@@ -155,6 +164,20 @@ impl Ending {
     }
 }
 
+impl TokenFault {
+    pub fn number(self) -> u32
+        ensures { λ r. ⌜ r ≡ token-fault-number self ⌝ }
+    {
+        match self {
+            TokenFault::Empty => 21,
+            TokenFault::Long => 22,
+            TokenFault::BadUtf8 => 23,
+            TokenFault::Forbidden => 24,
+            TokenFault::InnerBrace => 25,
+        }
+    }
+}
+
 impl TextFault {
     pub fn number(self) -> u32
         ensures { λ r. ⌜ r ≡ fault-number self ⌝ }
@@ -162,7 +185,7 @@ impl TextFault {
         match self {
             TextFault::TooLong => 11,
             TextFault::BadByte(_) => 13,
-            TextFault::BadToken(_) => 14,
+            TextFault::BadToken { fault, at } => fault.number(),
             TextFault::Unmatched(_) => 15,
             TextFault::Unclosed(_) => 16,
         }
@@ -174,7 +197,7 @@ impl TextFault {
         match self {
             TextFault::TooLong => 0,
             TextFault::BadByte(at) => at.0,
-            TextFault::BadToken(at) => at.0,
+            TextFault::BadToken { fault, at } => at.0,
             TextFault::Unmatched(at) => at.0,
             TextFault::Unclosed(at) => at.0,
         }

@@ -3,10 +3,12 @@ use Prim.Native.Nat.{ℕ, _+_, _-_, _<_, _≤_}
 use mathlib.Core.Path.{_≡_, ap, sym, _∙_}
 use mathlib.Core.Bool.{Bool, true, false}
 use mathlib.Core.Logic.{_≢_}
-use borrow.Author.Tests.{eq-eqb, ne-eqb, lt-ltb, le-ltb}
+use mathlib.Core.List.{List}
+use lib.ListN.{length, getD, drop}
+use borrow.Author.Tests.{eq-eqb, ne-eqb, lt-leb, le-leb, lt-ltb, le-ltb}
 use Rattle.kinds.specs.declared.Place.{Place}
-use Rattle.plan.specs.Plan.{close-brace}
-use Rattle.plan.specs.Token.{may-hold}
+use Rattle.plan.specs.Plan.{open-brace, close-brace}
+use Rattle.plan.specs.Token.{character, may-hold}
 use Rattle.plan.specs.Reading.{class, place}
 use Rattle.plan.specs.declared.Class.{Class}
 use Rattle.plan.specs.declared.Class.the-variants.{
@@ -22,12 +24,19 @@ use Rattle.plan.specs.declared.Character.{Character}
 use Rattle.plan.specs.declared.Character.the-variants.{Whole, Malformed}
 use Rattle.plan.specs.declared.Refusal.the-variants.{Text, Overfull}
 use Rattle.plan.specs.declared.TextFault.the-variants.{BadByte, Unmatched, Unclosed}
-use Rattle.reader.specs.Counting.{one-item, opened, closed, stepped, in-token, finished}
+use Rattle.reader.specs.Counting.{nothing-yet, one-item, opened, closed, stepped, faulty, in-character, in-token, finished}
 use Rattle.reader.specs.declared.Count.{Count}
-use Rattle.reader.specs.declared.InToken.the-variants.{Further, Close, Bad}
+use Rattle.plan.specs.declared.TokenFault.{TokenFault}
+use Rattle.plan.specs.declared.TokenFault.the-variants.{Empty, Long, BadUtf8, Forbidden, InnerBrace}
+use Rattle.reader.specs.declared.InToken.{InToken}
+use Rattle.reader.specs.declared.InToken.the-variants.{Further, Ends}
+use Rattle.reader.specs.declared.TokenRead.the-variants.{Whole as WholeToken, Faulty}
 use Rattle.reader.specs.declared.ByteStep.{ByteStep}
 use Rattle.reader.specs.declared.ByteStep.the-variants.{On, Token, Stop}
 use Rattle.reader.specs.declared.Surveyed.the-variants.{Accepted, Refused}
+
+pub nothing-told : (p : Place) → p .0 ≡ 0 → record { depth = 0; cells = 0; length = 0; past = p } ≡ nothing-yet
+nothing-told p h = ap (λ k. record { depth = 0; cells = 0; length = 0; past = place k }) h
 
 module _ (n : Count) (at room bytes : ℕ) where
   abbrev item : Place → Count
@@ -84,30 +93,52 @@ module _ (n : Count) (at room : ℕ) where
   unfolding finished
   end-within h g = rw (le-ltb 0 (n .depth) h, le-ltb room (n .cells) g)
 
+pub faulty-told : (f : TokenFault) (p : Place) (at : ℕ) → p .0 ≡ at → Ends (Faulty f p) ≡ faulty f at
+faulty-told f p at h = ap (λ k. faulty f k) h
+
 -- the character y that the leaf found is the one at the place, x
-module _ (limit taken : ℕ) {x y : Character} (found : y ≡ x) where
-  pub token-cut : y ≡ Malformed → Bad ≡ in-token limit taken x
-  unfolding in-token
-  token-cut e = rw (sym found ∙ e)
+module _ (last at : ℕ) {x y : Character} (found : y ≡ x) (r : InToken) where
+  pub character-malformed : y ≡ Malformed → r ≡ faulty BadUtf8 at → r ≡ in-character last at x
+  unfolding in-character
+  character-malformed e h = h ∙ (rw (sym found ∙ e))
 
   module _ {v w : ℕ} (e : y ≡ Whole v w) where
-    pub token-nothing : v ≡ close-brace → taken ≡ 0 → Bad ≡ in-token limit taken x
+    pub character-brace : v ≡ open-brace → r ≡ faulty InnerBrace at → r ≡ in-character last at x
+    unfolding in-character
+    character-brace o h = h ∙ (rw (sym found ∙ e, eq-eqb v open-brace o))
+
+    module _ (o : v ≢ open-brace) {t : Bool} (m : t ≡ may-hold v) where
+      pub character-forbidden : t ≡ false → r ≡ faulty Forbidden at → r ≡ in-character last at x
+      unfolding in-character
+      character-forbidden t h = h ∙ (rw (sym found ∙ e, ne-eqb v open-brace o, sym m ∙ t))
+
+      pub character-over : t ≡ true → last ≤ at + (w - 1) → r ≡ faulty Long last → r ≡ in-character last at x
+      unfolding in-character
+      character-over t l h = h ∙ (rw (sym found ∙ e, ne-eqb v open-brace o, sym m ∙ t, le-leb last (at + (w - 1)) l))
+
+      pub character-further : t ≡ true → at + (w - 1) < last → r ≡ Further w → r ≡ in-character last at x
+      unfolding in-character
+      character-further t l h = h ∙ (rw (sym found ∙ e, ne-eqb v open-brace o, sym m ∙ t, lt-leb last (at + (w - 1)) l))
+
+module _ (limit start at : ℕ) (text : List ℕ) (r : InToken) where
+  pub byte-end : length text ≤ at → r ≡ faulty Long (length text) → r ≡ in-token limit start at text
+  unfolding in-token
+  byte-end l h = h ∙ (rw (le-leb (length text) at l))
+
+  module _ (l : at < length text) where
+    pub byte-empty : getD text at 0 ≡ close-brace → at ≡ start + 1 → r ≡ faulty Empty at → r ≡ in-token limit start at text
     unfolding in-token
-    token-nothing h g = rw (sym found ∙ e, eq-eqb v close-brace h, eq-eqb taken 0 g)
+    byte-empty c e h = h ∙ (rw (lt-leb (length text) at l, eq-eqb _ _ c, eq-eqb _ _ e))
 
-    pub token-close : v ≡ close-brace → taken ≢ 0 → Close ≡ in-token limit taken x
+    pub byte-whole : getD text at 0 ≡ close-brace → at ≢ start + 1 → r ≡ Ends WholeToken → r ≡ in-token limit start at text
     unfolding in-token
-    token-close h g = rw (sym found ∙ e, eq-eqb v close-brace h, ne-eqb taken 0 g)
+    byte-whole c e h = h ∙ (rw (lt-leb (length text) at l, eq-eqb _ _ c, ne-eqb _ _ e))
 
-    pub token-over : v ≢ close-brace → limit < taken + w + 2 → Bad ≡ in-token limit taken x
+    pub byte-last : getD text at 0 ≢ close-brace → at ≡ start + (limit - 1) → r ≡ faulty Long at → r ≡ in-token limit start at text
     unfolding in-token
-    token-over h g = rw (sym found ∙ e, ne-eqb v close-brace h, lt-ltb limit (taken + w + 2) g)
+    byte-last c e h = h ∙ (rw (lt-leb (length text) at l, ne-eqb _ _ c, eq-eqb _ _ e))
 
-    module _ (h : v ≢ close-brace) (g : taken + w + 2 ≤ limit) {t : Bool} (m : t ≡ may-hold v) where
-      pub token-further : t ≡ true → Further w ≡ in-token limit taken x
-      unfolding in-token
-      token-further t = rw (sym found ∙ e, ne-eqb v close-brace h, le-ltb limit (taken + w + 2) g, sym m ∙ t)
-
-      pub token-bad : t ≡ false → Bad ≡ in-token limit taken x
-      unfolding in-token
-      token-bad t = rw (sym found ∙ e, ne-eqb v close-brace h, le-ltb limit (taken + w + 2) g, sym m ∙ t)
+    pub byte-character : getD text at 0 ≢ close-brace → at ≢ start + (limit - 1) → r ≡ in-character (start + (limit - 1)) at (character (drop at text))
+        → r ≡ in-token limit start at text
+    unfolding in-token
+    byte-character c e h = h ∙ (rw (lt-leb (length text) at l, ne-eqb _ _ c, ne-eqb _ _ e))

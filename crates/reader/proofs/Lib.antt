@@ -1,5 +1,4 @@
 pub mod Counted
 pub mod SurveySoFar
 pub mod Surveys
-pub mod Taken
 pub mod TokenSoFar

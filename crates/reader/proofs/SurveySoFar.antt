@@ -26,7 +26,7 @@ use Rattle.plan.proofs.Classes.{clash}
 use Rattle.plan.proofs.Faultless.{take-one, faultless-then, blanks-then, faultless-bounds, without-blanks-length}
 use Rattle.plan.proofs.Reached.{TextRead, text-read, text-fits}
 use Rattle.plan.proofs.Refusals.{row-refused}
-use Rattle.reader.specs.Counting.{Small, one-item, closed, stepped, finished, surveyed}
+use Rattle.reader.specs.Counting.{Small, nothing-yet, one-item, closed, stepped, finished, surveyed}
 use Rattle.reader.specs.declared.Count.{Count}
 use Rattle.reader.specs.declared.ByteStep.the-variants.{On, Token, Stop}
 use Rattle.reader.specs.declared.Surveyed.the-variants.{Accepted, Refused}
@@ -101,17 +101,17 @@ module _ {text : List ℕ} {room at : ℕ} {n : Count} (g : SurveySoFar text roo
           record { deep = n .depth; clean = rw (eqb-true (n .cells) room e) at (g .clean); begins = begins; before = later }
       go false e h = still-past (let differ : n .cells ≢ room = eqb-false (n .cells) room e in omega arith)
 
-pub survey-start : (text : List ℕ) (room : ℕ) (n : Count) → length text ≤ textLimit → n .depth ≡ 0 → n .cells ≡ 0 → n .length ≡ 0
-    → SurveySoFar text room n 0
+pub survey-start : (text : List ℕ) (room : ℕ) (n : Count) → length text ≤ textLimit → n ≡ nothing-yet → SurveySoFar text room n 0
 unfolding without-blanks
-survey-start text room n short d c l =
-    record {
+survey-start text room n short e =
+    subst (λ m. SurveySoFar text room m 0) (sym e)
+    (record {
       short = short;
       within = omega arith;
-      clean = rw (d, c) nothing;
-      keeps = sym l;
+      clean = nothing;
+      keeps = refl;
       past = λ h. absurd (omega arith);
-    }
+    })
 
 on-injective : {n m : Count} → On n ≡ On m → n ≡ m
 on-injective e = cc

@@ -1,19 +1,21 @@
 -- What the reader's inner loop knows inside a token: the bytes taken since the `{` are whole characters that a token may
--- hold, and few enough. Each answer of `token_byte` then ends the token, goes on, or is the fault that reading refuses.
+-- hold, and few enough. Each answer of `token_byte` then ends the token, goes on, or is the first fault, which reading refuses.
 use Prim.Native.Nat.{ℕ, suc, _+_, _-_, _≤_, _<_}
 use mathlib.Core.Path.{_≡_, refl, ap, sym, _∙_, subst}
 use mathlib.Core.Bool.{Bool, true, false, cond}
 use mathlib.Core.Logic.{_≢_}
-use mathlib.Core.Option.{none}
-use mathlib.Core.List.{List, [], _∷_, _++_, append-assoc, head-eq-of-cons-eq}
+use mathlib.Core.List.{List, [], _∷_, _++_, append-assoc}
+use native.Mathlib.Nat.{add-zero}
 use native.Mathlib.Omega.{arith}
-use lib.Dec.{eqb, ltb}
-use lib.ListN.{length, getD, take, drop, length-append, length-drop, take-append-drop}
-use lib.Seq.{drop-cons, drop-drop, length-take-le, split-at, take-add, take-at}
-use borrow.Author.Tests.{eqb-true, eqb-false, ltb-true, ltb-false}
+use lib.Dec.{eqb, leb}
+use lib.ListN.{length, getD, take, drop, length-append, length-drop, take-append-drop, drop-of-length-le}
+use lib.Seq.{drop-cons, drop-drop, getD-drop, length-take-le, split-at, take-add, take-at}
+use borrow.Author.Tests.{eqb-true, eqb-false, leb-true, leb-false}
 use Rattle.kinds.specs.Limits.{tokenLimit}
-use Rattle.plan.specs.Plan.{close-brace}
-use Rattle.plan.specs.Token.{allowed, character, may-hold, token-text}
+use Rattle.kinds.specs.declared.Place.{Place}
+use Rattle.plan.specs.Plan.{open-brace, close-brace}
+use Rattle.plan.specs.Token.{allowed, character, may-hold}
+use Rattle.plan.specs.TokenFaults.{FirstFault, unheld}
 use Rattle.plan.specs.Reading.{class, place, read, without-blanks}
 use Rattle.plan.specs.declared.Class.{Class}
 use Rattle.plan.specs.declared.Class.the-variants.{Operator as OPERATOR, Open as OPEN, Close as CLOSE, Brace as BRACE, Blank as BLANK, Bad as BAD}
@@ -22,63 +24,84 @@ use Rattle.plan.specs.declared.Character.{Character}
 use Rattle.plan.specs.declared.Character.the-variants.{Whole, Malformed}
 use Rattle.plan.specs.declared.Refusal.the-variants.{Text}
 use Rattle.plan.specs.declared.TextFault.the-variants.{BadToken, Unmatched}
+use Rattle.plan.specs.declared.TokenFault.{TokenFault}
+use Rattle.plan.specs.declared.TokenFault.the-variants.{Empty, Long, BadUtf8, Forbidden, InnerBrace}
 use Rattle.plan.proofs.Blanks.{token-kept}
 use Rattle.plan.proofs.Classes.{class-byte}
+use Rattle.plan.proofs.MayHold.{opening}
+use Rattle.plan.proofs.Taken.{Taken, start, scanned-step, scanned-allowed}
+use Rattle.plan.proofs.TokenFaults.{
+  ends-first,
+  forbidden-unheld,
+  low-byte,
+  malformed-first,
+  nothing-first,
+  open-unheld,
+  over-first,
+  reaching-first,
+  unheld-first,
+}
 use Rattle.plan.proofs.Tokens.{allowed-no-brace}
-use Rattle.plan.proofs.Utf8.{character-high, character-one, character-width}
-use Rattle.reader.specs.Counting.{closed, one-item, stepped, in-token, surveyed}
+use Rattle.plan.proofs.Utf8.{character-width}
+use Rattle.reader.specs.Counting.{closed, faulty, in-character, in-token, one-item, stepped, surveyed}
 use Rattle.reader.specs.declared.Count.{Count}
 use Rattle.reader.specs.declared.InToken.{InToken}
-use Rattle.reader.specs.declared.InToken.the-variants.{Further, Close, Bad}
+use Rattle.reader.specs.declared.InToken.the-variants.{Further, Ends}
+use Rattle.reader.specs.declared.TokenRead.the-variants.{Whole as WholeToken, Faulty}
 use Rattle.reader.specs.declared.ByteStep.the-variants.{On, Token, Stop}
 use Rattle.reader.specs.declared.Surveyed.the-variants.{Refused}
 use Rattle.reader.proofs.SurveySoFar.{SurveySoFar, item-more, refused-here, token-is-not-on, token-is-not-stop}
-use Rattle.reader.proofs.Taken.{
-  Taken,
-  start,
-  scanned-step,
-  scanned-allowed,
-  token-malformed,
-  token-forbidden,
-  token-long,
-  token-empty,
-}
 
--- what an answer says of the next character
-data NextSays (limit taken : ℕ) (x : Character) : InToken → Type 0 where
-  cut : x ≡ Malformed → NextSays limit taken x Bad
-  empty : {w : ℕ} → x ≡ Whole close-brace w → taken ≡ 0 → NextSays limit taken x Bad
-  ends : {w : ℕ} → x ≡ Whole close-brace w → taken ≢ 0 → NextSays limit taken x Close
-  long : {v w : ℕ} → x ≡ Whole v w → may-hold v ≡ true → limit < taken + w + 2 → NextSays limit taken x Bad
-  forbidden : {v w : ℕ} → x ≡ Whole v w → v ≢ close-brace → may-hold v ≡ false → NextSays limit taken x Bad
-  further : {v w : ℕ} → x ≡ Whole v w → may-hold v ≡ true → taken + w + 2 ≤ limit → NextSays limit taken x (Further w)
+-- what an answer says of the next byte of the token whose `{` is at `start`
+data NextSays (limit start at : ℕ) (text : List ℕ) : InToken → Type 0 where
+  text-end : length text ≤ at → NextSays limit start at text (faulty Long (length text))
+  empty : at < length text → getD text at 0 ≡ close-brace → at ≡ start + 1 → NextSays limit start at text (faulty Empty at)
+  ends : at < length text → getD text at 0 ≡ close-brace → at ≢ start + 1 → NextSays limit start at text (Ends WholeToken)
+  over : at < length text → getD text at 0 ≢ close-brace → at ≡ start + (limit - 1) → NextSays limit start at text (faulty Long at)
+  cut : at < length text → at ≢ start + (limit - 1) → character (drop at text) ≡ Malformed → NextSays limit start at text (faulty BadUtf8 at)
+  unheld-character : {v w : ℕ} {f : TokenFault} → getD text at 0 ≢ close-brace → at ≢ start + (limit - 1)
+      → character (drop at text) ≡ Whole v w → may-hold v ≡ false → unheld v ≡ f → NextSays limit start at text (faulty f at)
+  reaching : {v w last : ℕ} → character (drop at text) ≡ Whole v w → may-hold v ≡ true → last ≡ start + (limit - 1) → last ≤ at + (w - 1)
+      → NextSays limit start at text (faulty Long last)
+  further : {v w : ℕ} → character (drop at text) ≡ Whole v w → may-hold v ≡ true → at + (w - 1) < start + (limit - 1)
+      → NextSays limit start at text (Further w)
 
-said : (limit taken : ℕ) (x : Character) → NextSays limit taken x (in-token limit taken x)
-unfolding in-token
-said limit taken Malformed = cut refl
-said limit taken (Whole v w) = go (eqb v close-brace) refl (eqb taken 0) refl (ltb limit (taken + w + 2)) refl (may-hold v) refl
-  where
-    go : (a : Bool) → eqb v close-brace ≡ a → (b : Bool) → eqb taken 0 ≡ b → (c : Bool) → ltb limit (taken + w + 2) ≡ c → (d : Bool) → may-hold v ≡ d
-        → NextSays limit taken (Whole v w) (cond a (cond b Bad Close) (cond c Bad (cond d (Further w) Bad)))
-    go true a true b c c′ d d′ = empty (ap (λ k. Whole k w) (eqb-true v close-brace a)) (eqb-true taken 0 b)
-    go true a false b c c′ d d′ = ends (ap (λ k. Whole k w) (eqb-true v close-brace a)) (eqb-false taken 0 b)
-    go false a b b′ true c true d = long refl d (ltb-true limit (taken + w + 2) c)
-    go false a b b′ true c false d = forbidden refl (eqb-false v close-brace a) d
-    go false a b b′ false c true d = further refl d (ltb-false limit (taken + w + 2) c)
-    go false a b b′ false c false d = forbidden refl (eqb-false v close-brace a) d
+module _ (limit start at : ℕ) (text : List ℕ) where
+  said-character : (l : at < length text) → getD text at 0 ≢ close-brace → at ≢ start + (limit - 1) → (x : Character) → character (drop at text) ≡ x
+      → NextSays limit start at text (in-character (start + (limit - 1)) at x)
+  unfolding in-character
+  said-character l c n Malformed e = cut l n e
+  said-character l c n (Whole v w) e =
+      go (eqb v open-brace) refl (may-hold v) refl (leb (start + (limit - 1)) (at + (w - 1))) refl
+    where
+      other : v ≢ close-brace
+      other z = c (sym (ap (λ k. getD text k 0) (add-zero at)) ∙ sym (getD-drop at text 0 0) ∙ low-byte (drop at text) (omega arith) e ∙ z)
+
+      go : (a : Bool) → eqb v open-brace ≡ a → (b : Bool) → may-hold v ≡ b → (d : Bool) → leb (start + (limit - 1)) (at + (w - 1)) ≡ d
+          → NextSays limit start at text (cond a (faulty InnerBrace at) (cond b (cond d (faulty Long (start + (limit - 1))) (Further w)) (faulty Forbidden at)))
+      go true a b b′ d d′ =
+          let is : v ≡ open-brace = eqb-true _ _ a in
+          unheld-character c n e (sym (opening v is)) (ap unheld is ∙ open-unheld)
+      go false a true b true d = reaching e b refl (leb-true _ _ d)
+      go false a true b false d = further e b (leb-false _ _ d)
+      go false a false b d d′ = unheld-character c n e b (sym (forbidden-unheld v (eqb-false _ _ a) other))
+
+  said : NextSays limit start at text (in-token limit start at text)
+  unfolding in-token
+  said = go (leb (length text) at) refl (eqb (getD text at 0) close-brace) refl (eqb at (start + 1)) refl (eqb at (start + (limit - 1))) refl
+    where
+      go : (a : Bool) → leb (length text) at ≡ a → (b : Bool) → eqb (getD text at 0) close-brace ≡ b → (c : Bool) → eqb at (start + 1) ≡ c
+          → (d : Bool) → eqb at (start + (limit - 1)) ≡ d
+          → NextSays limit start at text (cond a (faulty Long (length text)) (cond b (cond c (faulty Empty at) (Ends WholeToken))
+          (cond d (faulty Long at) (in-character (start + (limit - 1)) at (character (drop at text))))))
+      go true a b b′ c c′ d d′ = text-end (leb-true _ _ a)
+      go false a true b true c d d′ = empty (leb-false _ _ a) (eqb-true _ _ b) (eqb-true _ _ c)
+      go false a true b false c d d′ = ends (leb-false _ _ a) (eqb-true _ _ b) (eqb-false _ _ c)
+      go false a false b c c′ true d = over (leb-false _ _ a) (eqb-false _ _ b) (eqb-true _ _ d)
+      go false a false b c c′ false d = said-character (leb-false _ _ a) (eqb-false _ _ b) (eqb-false _ _ d) (character (drop at text)) refl
 
 further-injective : {v w : ℕ} → Further v ≡ Further w → v ≡ w
 further-injective e = cc
-
--- a character with the value of `}` is that byte
-brace-first : (v : List ℕ) {w : ℕ} → character v ≡ Whole close-brace w → (rest : List ℕ) × (v ≡ close-brace ∷ rest)
-unfolding character
-brace-first [] e = absurd (let z : _≡_ {A = ℕ} 0 1 = cc in omega arith)
-brace-first (b ∷ bs) e = go (ltb b 128) refl e
-  where
-    go : (t : Bool) → ltb b 128 ≡ t → {w : ℕ} → character (b ∷ bs) ≡ Whole close-brace w → (rest : List ℕ) × (b ∷ bs ≡ close-brace ∷ rest)
-    go true h e = (bs, ap (_∷ bs) (sym (character-one b bs e (ltb-true b 128 h) .0)))
-    go false h e = absurd (let high = character-high b bs e (ltb-false b 128 h) in omega arith)
 
 -- the bytes taken since the `{`
 abbrev pub part : List ℕ → (at end : ℕ) → List ℕ
@@ -120,84 +143,105 @@ inside-start {text} {room} {at} {n} g h e =
       few = omega arith;
     }
 
-module _ {text : List ℕ} {room at end : ℕ} {n : Count} (i : TokenSoFar text room n at end) where
+module _ {text : List ℕ} {room at end : ℕ} {n : Count} (i′ : TokenSoFar text room n at end) where
   -- what the `{` stands before
   bytes-after : drop (suc at) text ≡ part text at end ++ drop end text
   bytes-after =
-      let there : suc at + (end - at - 1) ≡ end = omega (arith, i .ahead) in
+      let there : suc at + (end - at - 1) ≡ end = omega (arith, i′ .ahead) in
       sym (take-append-drop (end - at - 1) (drop (suc at) text))
       ∙ ap (part text at end ++_) (drop-drop (end - at - 1) (suc at) text ∙ ap (λ k. drop k text) there)
 
   longer-part : (w : ℕ) → part text at (end + w) ≡ part text at end ++ take w (drop end text)
   longer-part w =
-      let there : suc at + (end - at - 1) ≡ end = omega (arith, i .ahead) in
-      let count : end + w - at - 1 ≡ end - at - 1 + w = omega (arith, i .ahead) in
+      let there : suc at + (end - at - 1) ≡ end = omega (arith, i′ .ahead) in
+      let count : end + w - at - 1 ≡ end - at - 1 + w = omega (arith, i′ .ahead) in
       ap (λ k. take k (drop (suc at) text)) count ∙ take-add (end - at - 1) w (drop (suc at) text)
       ∙ ap (λ us. part text at end ++ take w us) (drop-drop (end - at - 1) (suc at) text ∙ ap (λ k. drop k text) there)
 
   taken : length (part text at end) ≡ end - at - 1
-  taken = length-take-le (end - at - 1) (drop (suc at) text) (omega (arith, length-drop (suc at) text, i .ahead, i .within))
+  taken = length-take-le (end - at - 1) (drop (suc at) text) (omega (arith, length-drop (suc at) text, i′ .ahead, i′ .within))
 
-  no-token : token-text tokenLimit (part text at end ++ drop end text) ≡ none → Refused (Text (BadToken (place at))) ≡ surveyed (read tokenLimit room text)
-  no-token e = refused-here (i .survey) (i .starts) (bad-token (i .brace) (ap (token-text tokenLimit) bytes-after ∙ e))
+  -- what comes behind the `{` has a first fault: it is what reading refuses, at its own place
+  refused-token : {f g : TokenFault} {k : ℕ} {p : Place} (j : ℕ) → FirstFault tokenLimit (part text at end ++ drop end text) j f → k ≡ suc at + j
+      → faulty f k ≡ Ends (Faulty g p) → Refused (Text (BadToken g p)) ≡ surveyed (read tokenLimit room text)
+  refused-token {f} {g} {k} {p} j first h e =
+      let same : BadToken g p ≡ BadToken f (place k) = cc in
+      ap (λ t. Refused (Text t)) (same ∙ ap (λ q. BadToken f (place q)) h)
+      ∙ refused-here (i′ .survey) (i′ .starts) (bad-token (i′ .brace) (subst (λ us. FirstFault tokenLimit us j f) (sym bytes-after) first))
 
-  -- the next character is a `}`
-  brace-next : {w : ℕ} → character (drop end text) ≡ Whole close-brace w → (end < length text) × (drop end text ≡ close-brace ∷ drop (suc end) text)
-  brace-next e =
-      let first = brace-first (drop end text) e in
-      let inside : end < length text = omega (arith, ap length (first .1), length-drop end text) in
-      let cons = drop-cons text end 0 inside in
-      (inside, cons ∙ ap (_∷ drop (suc end) text) (head-eq-of-cons-eq (sym cons ∙ first .1)))
+  room-left : length (part text at end) ≤ tokenLimit - 2
+  room-left = omega (arith, taken, i′ .few, i′ .ahead)
 
-  bad : (a : InToken) → NextSays tokenLimit (end - at - 1) (character (drop end text)) a → a ≡ Bad
-      → token-text tokenLimit (part text at end ++ drop end text) ≡ none
-  bad a (cut x) e = token-malformed tokenLimit (part text at end) (drop end text) (i .scanned) x
-  bad a (empty x none-taken) e =
-      rw (none-taken, brace-next x .1) (token-empty tokenLimit (drop (suc end) text))
-  bad a (ends x some-taken) e = absurd (let z : _≡_ {A = ℕ} 0 1 = cc in omega arith)
-  bad a (long x fine over) e =
-      token-long tokenLimit (part text at end) (drop end text) (i .scanned) x fine (omega (arith, taken))
-  bad a (forbidden x other held) e = token-forbidden tokenLimit (part text at end) (drop end text) (i .scanned) x held other
-  bad a (further x fine few) e = absurd (let z : _≡_ {A = ℕ} 0 1 = cc in omega arith)
+  next-byte : getD (drop end text) 0 0 ≡ getD text end 0
+  next-byte = getD-drop end text 0 0 ∙ ap (λ k. getD text k 0) (add-zero end)
 
-  pub inside-bad : Bad ≡ in-token tokenLimit (end - at - 1) (character (drop end text)) → Refused (Text (BadToken (place at))) ≡ surveyed (read tokenLimit room text)
-  inside-bad e = no-token (bad _ (said tokenLimit (end - at - 1) (character (drop end text))) (sym e))
+  faults : {a : InToken} {f : TokenFault} {p : Place} → NextSays tokenLimit at end text a → a ≡ Ends (Faulty f p)
+      → Refused (Text (BadToken f p)) ≡ surveyed (read tokenLimit room text)
+  faults (text-end l) e =
+      refused-token (length (part text at end)) (subst (λ us. FirstFault tokenLimit (part text at end ++ us) (length (part text at end)) Long) (sym (drop-of-length-le text l)) (ends-first (i′ .scanned) room-left))
+      (omega (arith, taken, i′ .ahead)) e
+  faults (empty l c z) e =
+      let nothing-yet : end - at - 1 ≡ 0 = omega arith in
+      refused-token 0 (rw (nothing-yet, drop-cons text end 0 l, c) (nothing-first tokenLimit (drop (suc end) text))) (omega arith) e
+  faults (ends l c z) e = absurd (let z : _≡_ {A = ℕ} 0 1 = cc in omega arith)
+  faults (over l c z) e =
+      refused-token (length (part text at end)) (over-first (i′ .scanned) room-left (drop end text) (omega (arith, taken)) (omega (arith, length-drop end text)) (λ h. c (sym next-byte ∙ h)))
+      (omega (arith, taken, i′ .ahead)) e
+  faults (cut l z x) e =
+      refused-token (length (part text at end)) (malformed-first (i′ .scanned) room-left (drop end text) (omega (arith, length-drop end text)) (omega (arith, taken, i′ .few, i′ .ahead)) x)
+      (omega (arith, taken, i′ .ahead)) e
+  faults (unheld-character {v = v} c z x h u) e =
+      let other : v ≢ close-brace = λ (is : v ≡ close-brace). c (sym next-byte ∙ low-byte (drop end text) (omega arith) x ∙ is) in
+      refused-token (length (part text at end)) (subst (FirstFault tokenLimit (part text at end ++ drop end text) (length (part text at end))) u
+      (unheld-first (i′ .scanned) room-left (drop end text) (omega (arith, taken, i′ .few, i′ .ahead)) x h other))
+      (omega (arith, taken, i′ .ahead)) e
+  faults (reaching x h z l) e =
+      refused-token (tokenLimit - 2) (reaching-first (i′ .scanned) room-left (drop end text) x h (omega (arith, taken, i′ .ahead, character-width (drop end text) x .0)))
+      (omega arith) e
+  faults (further x h l) e = absurd (let z : _≡_ {A = ℕ} 0 1 = cc in omega arith)
 
-  on : (w : ℕ) (a : InToken) → NextSays tokenLimit (end - at - 1) (character (drop end text)) a → a ≡ Further w
-      → (1 ≤ w) × TokenSoFar text room n at (end + w)
-  on w a (cut x) e = absurd (let z : _≡_ {A = ℕ} 0 1 = cc in omega arith)
-  on w a (empty x none-taken) e = absurd (let z : _≡_ {A = ℕ} 0 1 = cc in omega arith)
-  on w a (ends x some-taken) e = absurd (let z : _≡_ {A = ℕ} 0 1 = cc in omega arith)
-  on w a (long x fine over) e = absurd (let z : _≡_ {A = ℕ} 0 1 = cc in omega arith)
-  on w a (forbidden x other held) e = absurd (let z : _≡_ {A = ℕ} 0 1 = cc in omega arith)
-  on w a (further {w = w′} x fine few) e =
+  pub inside-faulty : (f : TokenFault) (p : Place) → Ends (Faulty f p) ≡ in-token tokenLimit at end text
+      → Refused (Text (BadToken f p)) ≡ surveyed (read tokenLimit room text)
+  inside-faulty f p e = faults (said tokenLimit at end text) (sym e)
+
+  goes-on : (w : ℕ) {a : InToken} → NextSays tokenLimit at end text a → a ≡ Further w → (1 ≤ w) × TokenSoFar text room n at (end + w)
+  goes-on w (text-end l) e = absurd (let z : _≡_ {A = ℕ} 0 1 = cc in omega arith)
+  goes-on w (empty l c z) e = absurd (let z : _≡_ {A = ℕ} 0 1 = cc in omega arith)
+  goes-on w (ends l c z) e = absurd (let z : _≡_ {A = ℕ} 0 1 = cc in omega arith)
+  goes-on w (over l c z) e = absurd (let z : _≡_ {A = ℕ} 0 1 = cc in omega arith)
+  goes-on w (cut l z x) e = absurd (let z : _≡_ {A = ℕ} 0 1 = cc in omega arith)
+  goes-on w (unheld-character c z x h u) e = absurd (let z : _≡_ {A = ℕ} 0 1 = cc in omega arith)
+  goes-on w (reaching x h z l) e = absurd (let z : _≡_ {A = ℕ} 0 1 = cc in omega arith)
+  goes-on w (further {w = w′} x fine l) e =
       let same : w′ ≡ w = further-injective e in
       let wide = character-width (drop end text) x in (
         omega (arith, wide .0),
         record {
-          survey = i .survey;
-          starts = i .starts;
-          brace = i .brace;
-          ahead = omega (arith, i .ahead);
-          within = omega (arith, wide .1, length-drop end text, i .within);
+          survey = i′ .survey;
+          starts = i′ .starts;
+          brace = i′ .brace;
+          ahead = omega (arith, i′ .ahead);
+          within = omega (arith, wide .1, length-drop end text, i′ .within);
           scanned = subst (λ k. Taken (part text at (end + k))) same
-              (subst Taken (sym (longer-part w′)) (scanned-step (part text at end) (drop end text) (i .scanned) x fine));
-          few = omega (arith, few, i .ahead);
+              (subst Taken (sym (longer-part w′)) (scanned-step (part text at end) (drop end text) (i′ .scanned) x fine));
+          few = omega (arith, l, i′ .ahead);
         },
       )
 
-  pub inside-further : (w : ℕ) → Further w ≡ in-token tokenLimit (end - at - 1) (character (drop end text))
-      → (1 ≤ w) × TokenSoFar text room n at (end + w)
-  inside-further w e = on w _ (said tokenLimit (end - at - 1) (character (drop end text))) (sym e)
+  pub inside-further : (w : ℕ) → Further w ≡ in-token tokenLimit at end text → (1 ≤ w) × TokenSoFar text room n at (end + w)
+  inside-further w e = goes-on w (said tokenLimit at end text) (sym e)
 
-  closing : (a : InToken) → NextSays tokenLimit (end - at - 1) (character (drop end text)) a → a ≡ Close
+  closing : {a : InToken} → NextSays tokenLimit at end text a → a ≡ Ends WholeToken
       → (end < length text) × (drop end text ≡ close-brace ∷ drop (suc end) text) × (1 ≤ end - at - 1)
-  closing a (cut x) e = absurd (let z : _≡_ {A = ℕ} 0 1 = cc in omega arith)
-  closing a (empty x none-taken) e = absurd (let z : _≡_ {A = ℕ} 0 1 = cc in omega arith)
-  closing a (ends x some-taken) e = let b = brace-next x in (b .0, b .1, omega arith)
-  closing a (long x fine over) e = absurd (let z : _≡_ {A = ℕ} 0 1 = cc in omega arith)
-  closing a (forbidden x other held) e = absurd (let z : _≡_ {A = ℕ} 0 1 = cc in omega arith)
-  closing a (further x fine few) e = absurd (let z : _≡_ {A = ℕ} 0 1 = cc in omega arith)
+  closing (text-end l) e = absurd (let z : _≡_ {A = ℕ} 0 1 = cc in omega arith)
+  closing (empty l c z) e = absurd (let z : _≡_ {A = ℕ} 0 1 = cc in omega arith)
+  closing (ends l c z) e =
+      (l, drop-cons text end 0 l ∙ ap (_∷ drop (suc end) text) c, omega (arith, i′ .ahead))
+  closing (over l c z) e = absurd (let z : _≡_ {A = ℕ} 0 1 = cc in omega arith)
+  closing (cut l z x) e = absurd (let z : _≡_ {A = ℕ} 0 1 = cc in omega arith)
+  closing (unheld-character c z x h u) e = absurd (let z : _≡_ {A = ℕ} 0 1 = cc in omega arith)
+  closing (reaching x h z l) e = absurd (let z : _≡_ {A = ℕ} 0 1 = cc in omega arith)
+  closing (further x h l) e = absurd (let z : _≡_ {A = ℕ} 0 1 = cc in omega arith)
 
   -- the token from its `{` to its `}`
   abbrev piece : List ℕ
@@ -207,7 +251,7 @@ module _ {text : List ℕ} {room at end : ℕ} {n : Count} (i : TokenSoFar text 
   joined e =
       let rest = drop (suc end) text in
       let whole : text ≡ take at text ++ piece ++ rest =
-      split-at text at 0 (i .starts)
+      split-at text at 0 (i′ .starts)
       ∙ ap (λ us. take at text ++ getD text at 0 ∷ us)
       (bytes-after ∙ ap (part text at end ++_) e ∙ sym (append-assoc (part text at end) (close-brace ∷ []) rest))
       ∙ sym (append-assoc (take at text) piece rest) in
@@ -218,23 +262,23 @@ module _ {text : List ℕ} {room at end : ℕ} {n : Count} (i : TokenSoFar text 
         length-append (take at text) piece,
         length-append (part text at end) (close-brace ∷ []),
         taken,
-        i .ahead,
-        length-take-le at text (omega (arith, i .starts)),
+        i′ .ahead,
+        length-take-le at text (omega (arith, i′ .starts)),
       ))
 
   whole-token : end < length text → drop end text ≡ close-brace ∷ drop (suc end) text → allowed tokenLimit (part text at end) ≡ true
       → SurveySoFar text room (one-item n at room (end + 1 - at)) (end + 1)
   unfolding without-blanks
   whole-token inside e fine =
-      item-more (i .survey) piece (end + 1) (joined e) (omega (arith, i .ahead)) (omega arith) (n .depth) (end + 1 - at)
-      (a-token (part text at end) (i .brace) fine nothing)
-      (ap length (token-kept (getD text at 0) (part text at end) [] (rw (i .brace) at (class-byte (getD text at 0))) (allowed-no-brace tokenLimit (part text at end) fine))
-      ∙ omega (arith, length-append (part text at end) (close-brace ∷ []), taken, i .ahead))
-      (rw (i .brace) tt)
+      item-more (i′ .survey) piece (end + 1) (joined e) (omega (arith, i′ .ahead)) (omega arith) (n .depth) (end + 1 - at)
+      (a-token (part text at end) (i′ .brace) fine nothing)
+      (ap length (token-kept (getD text at 0) (part text at end) [] (rw (i′ .brace) at (class-byte (getD text at 0))) (allowed-no-brace tokenLimit (part text at end) fine))
+      ∙ omega (arith, length-append (part text at end) (close-brace ∷ []), taken, i′ .ahead))
+      (rw (i′ .brace) tt)
 
-  pub inside-close : (m : Count) → Close ≡ in-token tokenLimit (end - at - 1) (character (drop end text)) → m ≡ one-item n at room (end + 1 - at)
+  pub inside-close : (m : Count) → Ends WholeToken ≡ in-token tokenLimit at end text → m ≡ one-item n at room (end + 1 - at)
       → (end < length text) × SurveySoFar text room m (end + 1)
   inside-close m e h =
-      let c = closing _ (said tokenLimit (end - at - 1) (character (drop end text))) (sym e) in
-      let fine = scanned-allowed tokenLimit (part text at end) (i .scanned) (omega (arith, taken, c .2)) (omega (arith, taken, i .few, i .ahead)) in
+      let c = closing (said tokenLimit at end text) (sym e) in
+      let fine = scanned-allowed tokenLimit (part text at end) (i′ .scanned) (omega (arith, taken, c .2)) (omega (arith, taken, i′ .few, i′ .ahead)) in
       (c .0, subst (λ x. SurveySoFar text room x (end + 1)) (sym h) (whole-token (c .0) (c .1) fine))

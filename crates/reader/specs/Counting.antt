@@ -1,11 +1,12 @@
 -- What the reader counts: the meaning of its leaves, each one equation. The laws in proofs/ tie them to reading.
 use Prim.Native.Nat.{ℕ, _+_, _-_, _≤_}
 use mathlib.Core.Bool.{cond}
-use lib.Dec.{ltb, eqb}
-use lib.ListN.{length}
+use mathlib.Core.List.{List}
+use lib.Dec.{leb, ltb, eqb}
+use lib.ListN.{length, getD, drop}
 use Rattle.kinds.specs.Limits.{textLimit}
-use Rattle.plan.specs.Plan.{cells, print, close-brace}
-use Rattle.plan.specs.Token.{may-hold}
+use Rattle.plan.specs.Plan.{cells, print, open-brace, close-brace}
+use Rattle.plan.specs.Token.{character, may-hold}
 use Rattle.plan.specs.Reading.{Reading, PLAN, REFUSED, place}
 use Rattle.plan.specs.declared.Class.{Class}
 use Rattle.plan.specs.declared.Class.the-variants.{Operator as OPERATOR, Open as OPEN, Close as CLOSE, Brace as BRACE, Blank as BLANK, Bad as BAD}
@@ -13,9 +14,12 @@ use Rattle.plan.specs.declared.Character.{Character}
 use Rattle.plan.specs.declared.Character.the-variants.{Whole, Malformed}
 use Rattle.plan.specs.declared.Refusal.the-variants.{Text, Overfull}
 use Rattle.plan.specs.declared.TextFault.the-variants.{BadByte, Unmatched, Unclosed}
+use Rattle.plan.specs.declared.TokenFault.{TokenFault}
+use Rattle.plan.specs.declared.TokenFault.the-variants.{Empty, Long, BadUtf8, Forbidden, InnerBrace}
 use Rattle.reader.specs.declared.Count.{Count}
 use Rattle.reader.specs.declared.InToken.{InToken}
-use Rattle.reader.specs.declared.InToken.the-variants.{Further, Close, Bad}
+use Rattle.reader.specs.declared.InToken.the-variants.{Further, Ends}
+use Rattle.reader.specs.declared.TokenRead.the-variants.{Whole as WholeToken, Faulty}
 use Rattle.reader.specs.declared.ByteStep.{ByteStep}
 use Rattle.reader.specs.declared.ByteStep.the-variants.{On, Token, Stop}
 use Rattle.reader.specs.declared.Surveyed.{Surveyed}
@@ -26,6 +30,9 @@ pub record Small (n : Count) : Type 0 where
   pub depth : n .depth ≤ textLimit
   pub cells : n .cells ≤ textLimit
   pub length : n .length ≤ textLimit
+
+abbrev pub nothing-yet : Count
+nothing-yet = record { depth = 0; cells = 0; length = 0; past = place 0 }
 
 -- an item of so many bytes; item number `room`, from 0, is the first past the room
 abbrev pub one-item : Count → (at room bytes : ℕ) → Count
@@ -55,12 +62,24 @@ stepped n BRACE at room = Token
 stepped n BLANK at room = On n
 stepped n BAD at room = Stop (BadByte (place at))
 
--- the next character of a token of which `taken` bytes are read: its `}`, a character that it may hold, or a fault
-unfoldable pub in-token : (limit taken : ℕ) → Character → InToken
-in-token limit taken Malformed = Bad
-in-token limit taken (Whole v width) =
-    cond (eqb v close-brace) (cond (eqb taken 0) Bad Close)
-    (cond (ltb limit (taken + width + 2)) Bad (cond (may-hold v) (Further width) Bad))
+-- a token's fault ends its reading, at the fault's own place
+abbrev pub faulty : TokenFault → (at : ℕ) → InToken
+faulty f at = Ends (Faulty f (place at))
+
+-- a character that begins before the last byte that the token may have, its `}`: a fault of its own, or that it reaches that byte
+unfoldable pub in-character : (last at : ℕ) → Character → InToken
+in-character last at Malformed = faulty BadUtf8 at
+in-character last at (Whole v width) =
+    cond (eqb v open-brace) (faulty InnerBrace at)
+    (cond (may-hold v) (cond (leb last (at + (width - 1))) (faulty Long last) (Further width)) (faulty Forbidden at))
+
+-- the next byte of the token whose `{` is at `start`
+unfoldable pub in-token : (limit start at : ℕ) → List ℕ → InToken
+in-token limit start at text =
+    let last = start + (limit - 1) in
+    cond (leb (length text) at) (faulty Long (length text))
+    (cond (eqb (getD text at 0) close-brace) (cond (eqb at (start + 1)) (faulty Empty at) (Ends WholeToken))
+    (cond (eqb at last) (faulty Long at) (in-character last at (character (drop at text)))))
 
 -- the end of the text
 unfoldable pub finished : Count → (at room : ℕ) → Surveyed

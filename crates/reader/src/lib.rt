@@ -2,20 +2,21 @@
 // token's bytes, left by a label at the first fault. Counting goes on past the room for cells, since the faults of the
 // text come before a plan that is too large.
 ghost use mathlib.Core.Path.{_≡_};
-ghost use Prim.Native.Nat.{_<_, _≤_};
+ghost use Prim.Native.Nat.{_+_, _<_, _≤_};
 ghost use lib.ListN.{length, drop};
 ghost use Rattle.kinds.specs.Limits.{textLimit, tokenLimit};
 ghost use Rattle.plan.specs.Token.{character};
 ghost use Rattle.plan.specs.Reading.{class, read};
 ghost use Rattle.plan.specs.declared.Class.the-variants.{Close as CLOSE};
-ghost use Rattle.reader.specs.Counting.{Small, one-item, opened, stepped, in-token, finished, surveyed};
+ghost use Rattle.reader.specs.Counting.{Small, nothing-yet, one-item, opened, stepped, faulty, in-character, in-token, finished, surveyed};
 use kinds::Place;
 use kinds::Token;
 use plan::Character;
 use plan::Class;
 use plan::Refusal;
 use plan::TextFault;
-use text::CLOSE_BRACE;
+use plan::TokenFault;
+use text::OPEN_BRACE;
 use text::character_at;
 use text::class_of;
 use text::may_hold;
@@ -36,17 +37,33 @@ pub enum ByteStep {
     Stop(TextFault),
 }
 
-// What the next byte of a token begins: a character that the token may hold, its end, or a fault.
+// What reading a token comes to: a whole one, or its first fault and where that stands.
+pub enum TokenRead {
+    Whole,
+    Faulty { fault: TokenFault, at: Place },
+}
+
+// What the next byte of a token begins: a character of so many bytes that the token may hold, or nothing more of it.
 pub enum InToken {
     Further(u32),
-    Close,
-    Bad,
+    Ends(TokenRead),
 }
 
 // What a text is found to be.
 pub enum Surveyed {
     Accepted { cells: u32, length: u32 },
     Refused(Refusal),
+}
+
+fn nothing_yet() -> Count
+    ensures { λ r. ⌜ r ≡ nothing-yet ⌝ }
+{
+    Count {
+        depth: 0,
+        cells: 0,
+        length: 0,
+        past: Place::new(0),
+    }
 }
 
 // One item more, of so many bytes outside its block's contents.
@@ -116,26 +133,57 @@ fn read_byte(count: Count, byte: u8, at: usize, room: u32) -> ByteStep
     }
 }
 
-fn token_byte(text: &[u8], at: usize, taken: usize) -> InToken
-    requires { ⌜ taken ≤ tokenLimit ⌝ }
-    ensures { λ r. ⌜ r ≡ in-token tokenLimit taken (character (drop at (now (text .entry)))) ⌝ }
+fn faulty(fault: TokenFault, at: usize) -> InToken
+    requires { ⌜ at ≤ textLimit ⌝ }
+    ensures { λ r. ⌜ r ≡ faulty fault at ⌝ }
+{
+    InToken::Ends(TokenRead::Faulty {
+        fault,
+        at: Place::new(at),
+    })
+}
+
+// The character at a place, in a token that may have no byte behind `last`, its `}`: a fault of its own comes first, since it stands
+// before that byte.
+fn token_character(text: &[u8], last: usize, at: usize) -> InToken
+    requires { ⌜ (length (now text) ≤ textLimit) × (at < last) × (at < length (now text)) ⌝ }
+    ensures { λ r. ⌜ r ≡ in-character last at (character (drop at (now (text .entry)))) ⌝ }
 {
     let Character::Whole { value, width } = character_at(text, at) else {
-        return InToken::Bad;
+        return faulty(TokenFault::BadUtf8, at);
     };
-    if value == CLOSE_BRACE {
-        if taken == 0 {
-            return InToken::Bad;
+    let reached = at + (width as usize - 1);
+    if value == OPEN_BRACE {
+        return faulty(TokenFault::InnerBrace, at);
+    }
+    if !may_hold(value) {
+        return faulty(TokenFault::Forbidden, at);
+    }
+    if last <= reached {
+        return faulty(TokenFault::Long, last);
+    }
+    InToken::Further(width)
+}
+
+// The next byte of the token whose `{` is at `start`: its 64th byte is the last that there may be, and has to be its `}`.
+fn token_byte(text: &[u8], start: usize, at: usize) -> InToken
+    requires { ⌜ (length (now text) ≤ textLimit) × (start < at) × (at < start + tokenLimit) × (at ≤ length (now text)) ⌝ }
+    ensures { λ r. ⌜ r ≡ in-token tokenLimit start at (now (text .entry)) ⌝ }
+{
+    if text.len() <= at {
+        return faulty(TokenFault::Long, text.len());
+    }
+    if text[at] == b'}' {
+        if at == start + 1 {
+            return faulty(TokenFault::Empty, at);
         }
-        return InToken::Close;
+        return InToken::Ends(TokenRead::Whole);
     }
-    if Token::LIMIT < taken + width as usize + 2 {
-        return InToken::Bad;
+    let last = start + (Token::LIMIT - 1);
+    if at == last {
+        return faulty(TokenFault::Long, at);
     }
-    if may_hold(value) {
-        return InToken::Further(width);
-    }
-    InToken::Bad
+    token_character(text, last, at)
 }
 
 // The end of the text.
@@ -160,12 +208,7 @@ pub fn survey(text: &[u8], room: u32) -> Surveyed
     requires { ⌜ length (now text) ≤ textLimit ⌝ }
     ensures { λ r. ⌜ r ≡ surveyed (read tokenLimit room (now (text .entry))) ⌝ }
 {
-    let mut count = Count {
-        depth: 0,
-        cells: 0,
-        length: 0,
-        past: Place::new(0),
-    };
+    let mut count = nothing_yet();
     let mut at: usize = 0;
     let fault = 'items: loop {
         if text.len() <= at {
@@ -180,10 +223,14 @@ pub fn survey(text: &[u8], room: u32) -> Surveyed
             ByteStep::Token => {
                 let mut end = at + 1;
                 loop {
-                    match token_byte(text, end, end - at - 1) {
+                    match token_byte(text, at, end) {
                         InToken::Further(width) => end += width as usize,
-                        InToken::Close => break,
-                        InToken::Bad => break 'items TextFault::BadToken(Place::new(at)),
+                        InToken::Ends(token) => {
+                            let TokenRead::Faulty { fault, at } = token else {
+                                break;
+                            };
+                            break 'items TextFault::BadToken { fault, at };
+                        }
                     }
                 }
                 count = one_item(count, at, room, (end + 1 - at) as u32);

@@ -1,4 +1,3 @@
 pub mod Characters
-pub mod MayHold
 pub mod Table
 pub mod Values

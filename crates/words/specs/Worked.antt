@@ -51,7 +51,7 @@ worked-links =
     refused (listing 1 (entry "s" "abc" ∷ [])) "{%s}{%s}" 20 17 0 ∷
     refused (listing 1 (entry "s" "abc" ∷ [])) "{%s}{%s}]" 20 15 8 ∷
     refused (listing 1 (entry "s" "abc" ∷ [])) "{%s}x" 20 13 4 ∷
-    refused (listing 1 (entry "s" "abc" ∷ [])) "{%s}{}" 20 14 4 ∷
+    refused (listing 1 (entry "s" "abc" ∷ [])) "{%s}{}" 20 21 5 ∷
     refused (listing 1 (entry "s" "abc" ∷ [])) "[{%s}" 20 16 5 ∷
     refused (listing 1 (entry "s" "{x}" ∷ [])) "{%s}" 2 18 3 ∷
     bad-list 257 [] 256 ∷

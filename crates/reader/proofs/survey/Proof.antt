@@ -1,16 +1,13 @@
 -- `survey`: the outer loop knows that the bytes passed hold no fault and what was counted of them, the inner one that the
 -- token's bytes so far are whole characters that it may hold. Both come nearer to the end of the text with each turn.
 use Prim.Native.Nat.{_-_}
-use mathlib.Core.Path.{refl, sym, _∙_, ap}
+use mathlib.Core.Path.{sym, _∙_, ap}
 use lib.ListN.{length}
 use native.Mathlib.Omega.{arith}
 use borrow.Author.Needs.{needs}
-use Rattle.plan.specs.Reading.{place}
-use Rattle.plan.specs.declared.Refusal.the-variants.{Text}
-use Rattle.plan.specs.declared.TextFault.the-variants.{BadToken}
-use Rattle.reader.specs.declared.Surveyed.the-variants.{Refused}
+use Rattle.reader.specs.declared.InToken.the-variants.{Ends}
 use Rattle.reader.proofs.SurveySoFar.{SurveySoFar, survey-start, survey-small, survey-on, survey-stop, survey-end}
-use Rattle.reader.proofs.TokenSoFar.{TokenSoFar, inside-start, inside-further, inside-bad, inside-close}
+use Rattle.reader.proofs.TokenSoFar.{TokenSoFar, inside-start, inside-further, inside-faulty, inside-close}
 use Rattle.reader.proofs.survey.Statement.{statement}
 use Rattle.reader.proofs.survey.Tie as tie
 
@@ -26,12 +23,12 @@ Inv-items text room count₀ at₀ count at = SurveySoFar text room count at
 abbrev μ-items : tie.MeasureT-items
 μ-items text room count₀ at₀ count at = length text - at
 
-new-requires : tie.Need-new-requires Inv-loop μ-loop Inv-items μ-items
-new-requires c κs = search needs
+nothing-yet-requires : tie.Need-nothing-yet-requires Inv-loop μ-loop Inv-items μ-items
+nothing-yet-requires c κs = search needs
 
 items-holds : tie.Need-items-holds Inv-loop μ-loop Inv-items μ-items
 items-holds c =
-    survey-start _ _ _ (c .before .before .pre) refl refl refl
+    survey-start _ _ _ (c .before .before .pre) (c .nothing-yet .ensures)
 
 finish-requires : tie.Need-finish-requires Inv-loop μ-loop Inv-items μ-items
 finish-requires c κs = search needs
@@ -79,12 +76,6 @@ loop-holds c =
     let e = r .before .before in
     inside-start (e .before .items .inv) (e .if1 .left) (sym (c .enum-told .given .1) ∙ r .read-byte .ensures)
 
-sub-token-byte : tie.Need-sub-token-byte Inv-loop μ-loop Inv-items μ-items
-sub-token-byte c = search needs
-
-sub-token-byte-2 : tie.Need-sub-token-byte-2 Inv-loop μ-loop Inv-items μ-items
-sub-token-byte-2 c = search needs
-
 token-byte-requires : tie.Need-token-byte-requires Inv-loop μ-loop Inv-items μ-items
 token-byte-requires c κs = search needs
 
@@ -108,14 +99,14 @@ loop-again c =
     let t = c .before .before .before in
     inside-further (t .before .loop .inv) _ (sym (c .before .width .given .1) ∙ t .token-byte .ensures) .1
 
+enum-known-token : tie.Need-enum-known-token Inv-loop μ-loop Inv-items μ-items
+enum-known-token c = search needs
+
+enum-known-token-2 : tie.Need-enum-known-token-2 Inv-loop μ-loop Inv-items μ-items
+enum-known-token-2 c = search needs
+
 enum-told-2 : tie.Need-enum-told-2 Inv-loop μ-loop Inv-items μ-items
 enum-told-2 c = search needs
-
-enum-told-3 : tie.Need-enum-told-3 Inv-loop μ-loop Inv-items μ-items
-enum-told-3 c = search needs
-
-new-requires-2 : tie.Need-new-requires-2 Inv-loop μ-loop Inv-items μ-items
-new-requires-2 c κs = search needs
 
 add-one-item : tie.Need-add-one-item Inv-loop μ-loop Inv-items μ-items
 add-one-item c = search needs
@@ -128,7 +119,7 @@ cast-one-item c = search needs
 
 one-item-requires : tie.Need-one-item-requires Inv-loop μ-loop Inv-items μ-items
 one-item-requires c κs =
-    let i = c .before .before .before .loop .inv in
+    let i = c .before .before .before .before .before .before .loop .inv in
     (survey-small (i .survey), omega (arith, i .survey .within, i .survey .short), omega (arith, i .few, i .ahead))
 
 add-at-2 : tie.Need-add-at-2 Inv-loop μ-loop Inv-items μ-items
@@ -139,8 +130,10 @@ items-less-2 c = search needs
 
 items-again-2 : tie.Need-items-again-2 Inv-loop μ-loop Inv-items μ-items
 items-again-2 c =
-    let t = c .before .before .before in
-    inside-close (t .before .loop .inv) _ (sym (c .before .enum-told2 .given .1) ∙ t .token-byte .ensures) (c .one-item .ensures) .1
+    let k = c .before in
+    let t = k .before .before .before .before .before in
+    inside-close (t .before .loop .inv) _
+    (sym (k .before .before .before .token .given .1 ∙ ap Ends (k .enum-told2 .given .1)) ∙ t .token-byte .ensures) (c .one-item .ensures) .1
 
 returns-2 : tie.Need-returns-2 Inv-loop μ-loop Inv-items μ-items
 returns-2 c =
@@ -150,9 +143,10 @@ returns-2 c =
 
 returns-3 : tie.Need-returns-3 Inv-loop μ-loop Inv-items μ-items
 returns-3 c =
-    let t = c .before .before .before in
-    ap (λ k. Refused (Text (BadToken (place k)))) (c .new2 .ensures)
-    ∙ inside-bad (t .before .loop .inv) (sym (c .before .enum-told3 .given .1) ∙ t .token-byte .ensures)
+    let k = c .before .before .before .before in
+    let t = k .before .before in
+    let read = c .before .token2 .given in
+    inside-faulty (t .before .loop .inv) (read .0 .0) (read .0 .1 .0) (sym (k .token .given .1 ∙ ap Ends (read .1)) ∙ t .token-byte .ensures)
 
 pub survey-spec : {M : Type 1} → statement M
 survey-spec =
@@ -162,7 +156,7 @@ survey-spec =
     μ-loop
     Inv-items
     μ-items
-    new-requires
+    nothing-yet-requires
     items-holds
     finish-requires
     returns
@@ -176,17 +170,15 @@ survey-spec =
     enum-told
     add-end
     loop-holds
-    sub-token-byte
-    sub-token-byte-2
     token-byte-requires
     enum-known-width
     cast-end
     add-end-2
     loop-less
     loop-again
+    enum-known-token
+    enum-known-token-2
     enum-told-2
-    enum-told-3
-    new-requires-2
     add-one-item
     sub-one-item
     cast-one-item

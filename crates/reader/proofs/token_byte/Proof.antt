@@ -1,62 +1,62 @@
 -- `token_byte`: each test picks the case of the definition, in the definition's order.
 use borrow.Author.Needs.{needs}
-use Rattle.reader.proofs.Counted.{token-cut, token-nothing, token-close, token-over, token-further, token-bad}
+use Rattle.reader.proofs.Counted.{byte-end, byte-empty, byte-whole, byte-last, byte-character}
 use Rattle.reader.proofs.token_byte.Statement.{statement}
 use Rattle.reader.proofs.token_byte.Tie as tie
 
-character-at-requires : tie.Need-character-at-requires
-character-at-requires c κs = search needs
-
-enum-known-value : tie.Need-enum-known-value
-enum-known-value c = search needs
-
-enum-told : tie.Need-enum-told
-enum-told c = search needs
+faulty-requires : tie.Need-faulty-requires
+faulty-requires c κs = search needs
 
 returns : tie.Need-returns
-returns c = search (needs, token-cut)
+returns c = search (needs, byte-end)
 
-returns-2 : tie.Need-returns-2
-returns-2 c = search (needs, token-nothing)
-
-returns-3 : tie.Need-returns-3
-returns-3 c = search (needs, token-close)
-
-cast-if3 : tie.Need-cast-if3
-cast-if3 c = search needs
+shared-slice-read-if2 : tie.Need-shared-slice-read-if2
+shared-slice-read-if2 c = search needs
 
 add-if3 : tie.Need-add-if3
 add-if3 c = search needs
 
-add-if3-2 : tie.Need-add-if3-2
-add-if3-2 c = search needs
+faulty-requires-2 : tie.Need-faulty-requires-2
+faulty-requires-2 c κs = search needs
+
+returns-2 : tie.Need-returns-2
+returns-2 c = search (needs, byte-empty)
+
+returns-3 : tie.Need-returns-3
+returns-3 c = search (needs, byte-whole)
+
+sub-last : tie.Need-sub-last
+sub-last c = search needs
+
+add-last : tie.Need-add-last
+add-last c = search needs
+
+faulty-requires-3 : tie.Need-faulty-requires-3
+faulty-requires-3 c κs = search needs
 
 returns-4 : tie.Need-returns-4
-returns-4 c = search (needs, token-over)
+returns-4 c = search (needs, byte-last)
 
-may-hold-requires : tie.Need-may-hold-requires
-may-hold-requires c κs = search needs
+token-character-requires : tie.Need-token-character-requires
+token-character-requires c κs = search needs
 
 returns-5 : tie.Need-returns-5
-returns-5 c = search (needs, token-further)
-
-returns-6 : tie.Need-returns-6
-returns-6 c = search (needs, token-bad)
+returns-5 c = search (needs, byte-character)
 
 pub token-byte-spec : {M : Type 1} → statement M
 token-byte-spec =
     tie.close
     (tie.spec
-    character-at-requires
-    enum-known-value
-    enum-told
+    faulty-requires
     returns
+    shared-slice-read-if2
+    add-if3
+    faulty-requires-2
     returns-2
     returns-3
-    cast-if3
-    add-if3
-    add-if3-2
+    sub-last
+    add-last
+    faulty-requires-3
     returns-4
-    may-hold-requires
-    returns-5
-    returns-6)
+    token-character-requires
+    returns-5)

@@ -1,6 +1,6 @@
 -- `may_hold`: at each return the tests that led there give the range of the value, and so the case of the definition.
 use borrow.Author.Needs.{needs}
-use Rattle.text.proofs.MayHold.{opening, closing, control, printing, late-control, replacement, beyond}
+use Rattle.plan.proofs.MayHold.{opening, closing, control, printing, late-control, replacement, beyond}
 use Rattle.text.proofs.may_hold.Statement.{statement}
 use Rattle.text.proofs.may_hold.Tie as tie
 
