@@ -2,7 +2,7 @@
 
 base.txt was worked out while every `{` that opens no allowed token was 14, at that `{`. Request 1 tells which fault it is, and at
 which byte, so that these lines have another number and another place now; all others stand. `renumbered` changes those. It is a
-plain reading of the table in the request's issue, and shares nothing with the crates or with the twin:
+plain reading of this table, and shares nothing with the crates or with the twin:
 
     21  nothing between the braces: at the closing brace
     22  the token's 64th byte (its `{` is the first) is there and is not `}`, and no `}` stands before it: at that byte

@@ -5,6 +5,7 @@ use mathlib.Core.Logic.{_≢_}
 use mathlib.Core.Bool.{cond}
 use native.Mathlib.Omega.{arith}
 use lib.Dec.{eqb}
+use borrow.Author.Needs.{needs}
 use borrow.Author.Tests.{ne-eqb}
 use Rattle.plan.specs.declared.Answer.{Answer}
 use Rattle.plan.specs.declared.Answer.the-variants.{Ran, Read, Refused}
@@ -19,7 +20,7 @@ use Rattle.plan.specs.declared.TextFault.{TextFault}
 use Rattle.plan.specs.declared.TextFault.the-variants.{TooLong, BadByte, BadToken, Unmatched, Unclosed}
 use Rattle.plan.specs.Reading.{place}
 use Rattle.plan.specs.Services.{ending-number, fault-number, fault-place, numbers, refusal-number, refusal-place, token-fault-number}
-use Rattle.demands.specs.Words.{DONE, FULL, IsRefusal, OUTSHORT, OVERFULL, QUOTA, READ, refusal}
+use Rattle.demands.specs.Words.{DONE, FULL, IsRefusal, OUTSHORT, OVERFULL, QUOTA, READ, TOOLONG, refusal}
 
 pub ending-at-most : (e : Ending) → ending-number e ≤ FULL
 ending-at-most Done = omega arith
@@ -39,7 +40,7 @@ same-ending e d h = sym (with-its-number e) ∙ ap ending-with h ∙ with-its-nu
     with-its-number Quota = refl
     with-its-number Full = refl
 
--- a token's faults have the numbers 21 to 25, and no fault of a text has the number of another refusal; 14 is never given again
+-- a token's faults have the numbers 21 to 25
 pub token-fault-range : (f : TokenFault) → (21 ≤ token-fault-number f) × (token-fault-number f ≤ 25)
 token-fault-range Empty = omega arith
 token-fault-range Long = omega arith
@@ -47,22 +48,25 @@ token-fault-range BadUtf8 = omega arith
 token-fault-range Forbidden = omega arith
 token-fault-range InnerBrace = omega arith
 
--- `Apart n`: a number from 11 to 25, but not 12, 14, 17 or 18
-abbrev pub Apart : ℕ → Type 0
-Apart n = (11 ≤ n) × (n ≤ 25) × (n ≢ 12) × (n ≢ 14) × (n ≢ OVERFULL) × (n ≢ OUTSHORT)
+-- the numbers that a fault of a text may have
+pub record TextNumber (n : ℕ) : Type 0 where
+  pub low : TOOLONG ≤ n
+  pub high : n ≤ 25
+  pub no-arena : n ≢ 12
+  pub not-14 : n ≢ 14
+  pub no-overfull : n ≢ OVERFULL
+  pub no-outshort : n ≢ OUTSHORT
 
-pub fault-apart : (f : TextFault) → Apart (fault-number f)
-fault-apart TooLong = (omega arith, omega arith, λ e. omega arith, λ e. omega arith, λ e. omega arith, λ e. omega arith)
-fault-apart (BadByte at) = (omega arith, omega arith, λ e. omega arith, λ e. omega arith, λ e. omega arith, λ e. omega arith)
-fault-apart (BadToken f at) =
-    let r = token-fault-range f in
-    (omega arith, r .1, λ e. omega (arith, r), λ e. omega (arith, r), λ e. omega (arith, r), λ e. omega (arith, r))
-fault-apart (Unmatched at) = (omega arith, omega arith, λ e. omega arith, λ e. omega arith, λ e. omega arith, λ e. omega arith)
-fault-apart (Unclosed at) = (omega arith, omega arith, λ e. omega arith, λ e. omega arith, λ e. omega arith, λ e. omega arith)
+pub fault-number-is : (f : TextFault) → TextNumber (fault-number f)
+fault-number-is TooLong = search needs
+fault-number-is (BadByte at) = search needs
+fault-number-is (BadToken f at) = let range = token-fault-range f in search needs
+fault-number-is (Unmatched at) = search needs
+fault-number-is (Unclosed at) = search needs
 
 -- a refusal's number is none of an unrefused call's
 pub refusal-over : (x : Refusal) → READ < refusal-number x
-refusal-over (Text f) = omega (arith, fault-apart f .0)
+refusal-over (Text f) = omega (arith, fault-number-is f .low)
 refusal-over BadArena = omega arith
 refusal-over (Overfull at) = omega arith
 refusal-over (OutShort needed) = omega arith
@@ -99,8 +103,8 @@ refusal-with number at =
 with-its-own : (x : Refusal) → refusal-with (refusal-number x) (refusal-place x) ≡ x
 unfolding refusal-with
 with-its-own (Text f) =
-    let a = fault-apart f in
-    rw (ne-eqb _ _ (a .2), ne-eqb _ _ (a .4), ne-eqb _ _ (a .5)) (ap Text (fault-with-its-own f))
+    let n = fault-number-is f in
+    rw (ne-eqb _ _ (n .no-arena), ne-eqb _ _ (n .no-overfull), ne-eqb _ _ (n .no-outshort)) (ap Text (fault-with-its-own f))
 with-its-own BadArena = refl
 with-its-own (Overfull at) = refl
 with-its-own (OutShort needed) = refl
@@ -120,7 +124,7 @@ is-refusal r h = (h .0, same-refusal r (h .0) (h .1))
 pub fourteen-never-given : (r : Answer) → numbers r .number ≢ 14
 fourteen-never-given (Ran e steps c l) h = omega (arith, ending-at-most e)
 fourteen-never-given (Read c l) h = omega arith
-fourteen-never-given (Refused (Text f)) h = fault-apart f .3 h
+fourteen-never-given (Refused (Text f)) h = fault-number-is f .not-14 h
 fourteen-never-given (Refused BadArena) h = omega arith
 fourteen-never-given (Refused (Overfull at)) h = omega arith
 fourteen-never-given (Refused (OutShort needed)) h = omega arith

@@ -1,4 +1,4 @@
--- When TIDY and RUN refuse and with which place: rows 11 to 17 of document 01's table, which `Refuses` has for every call, and
+-- When TIDY and RUN refuse and with which place: rows 11 to 17 of document 01's table, 21 to 25 for 14, which `Refuses` has for every call, and
 -- row 18, the printed text longer than the output. CHECK has no output, so `Refuses` is its whole table.
 use Prim.Native.Nat.{ℕ, _<_}
 use mathlib.Core.List.{List}

@@ -24,7 +24,7 @@ use Rattle.words.specs.declared.LinkRefusal.the-variants.{Text}
 use Rattle.words.proofs.Listing.{link-again}
 use Rattle.linking.specs.Calls.{Links}
 use Rattle.demands.specs.Words.{OVERFULL, READ}
-use Rattle.demands.proofs.Numbers.{fault-apart}
+use Rattle.demands.proofs.Numbers.{fault-number-is}
 use Rattle.linked.specs.Lists.{HasWords}
 use Rattle.linked.specs.Table.{Faulty, LinkedAs, row-11, rows-13-to-16}
 use Rattle.linked.specs.Words.{IsLinked, HasPlan, linked-by, no-words, placeless, refusal, saved}
@@ -52,7 +52,7 @@ fault-refused {text} (rows-13-to-16 n short row) = rw (le-ltb textLimit (length 
 
 -- and tells the same five numbers of it
 fault-told : (f : TextFault) → refusal (Text f) ≡ placeless (numbers (Refused (BadText f)))
-fault-told f = rw (ne-eqb (fault-number f) OVERFULL (fault-apart f .4))
+fault-told f = rw (ne-eqb (fault-number f) OVERFULL (fault-number-is f .no-overfull))
 
 -- "Linking by the empty list gives what TIDY gives, but for OVERFULL's place, which is 0": the same five numbers and the same bytes
 pub no-words-is-tidy : {text out : List ℕ} {r : LinkAnswer} {s : Answer} {a b : List ℕ}

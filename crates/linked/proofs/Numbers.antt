@@ -35,8 +35,8 @@ with-its-own : (x : LinkRefusal) → refusal-with (link-refusal-number x) (link-
 unfolding refusal-with
 with-its-own (BadWords rank) = refl
 with-its-own (Text f) =
-    let a = demanded.fault-apart f in
-    rw (ne-eqb (fault-number f) BADWORDS (λ e. omega (arith, a .1)), ne-eqb _ _ (a .4), ne-eqb _ _ (a .5)) (ap Text (demanded.fault-with-its-own f))
+    let n = demanded.fault-number-is f in
+    rw (ne-eqb (fault-number f) BADWORDS (λ e. omega (arith, n .high)), ne-eqb _ _ (n .no-overfull), ne-eqb _ _ (n .no-outshort)) (ap Text (demanded.fault-with-its-own f))
 with-its-own Overfull = refl
 with-its-own (OutShort needed) = refl
 
@@ -57,6 +57,6 @@ same-answer (Linked c l) (Linked d m) h =
 pub fourteen-never-given : (r : LinkAnswer) → link-numbers r .number ≢ 14
 fourteen-never-given (Linked c l) h = omega arith
 fourteen-never-given (Refused (BadWords rank)) h = omega arith
-fourteen-never-given (Refused (Text f)) h = demanded.fault-apart f .3 h
+fourteen-never-given (Refused (Text f)) h = demanded.fault-number-is f .not-14 h
 fourteen-never-given (Refused Overfull) h = omega arith
 fourteen-never-given (Refused (OutShort needed)) h = omega arith

@@ -1,4 +1,4 @@
--- The refusals, each exactly when, with its place: first 26 by the list, then 11 and 13 to 16 by the text, then 17 by the linked plan's
+-- The refusals, each exactly when, with its place: first 26 by the list, then the text's faults, then 17 by the linked plan's
 -- cells, then 18 by its printed text; what a refusal leaves; and that there is no other answer.
 use Prim.Native.Nat.{ℕ, _≤_, _<_}
 use mathlib.Core.Path.{_≡_, refl, ap, ap₂, subst}
@@ -34,7 +34,7 @@ use Rattle.linked.proofs.Cases.{
   over-full,
 }
 use Rattle.linked.proofs.Lists.{not-both, one-rank, one-stock}
-use Rattle.demands.proofs.Numbers.{fault-apart}
+use Rattle.demands.proofs.Numbers.{fault-number-is}
 use Rattle.linked.proofs.Numbers.{refusal-over, same-refusal}
 
 -- every call is answered: it links its text, or is refused
@@ -120,12 +120,12 @@ module _ {list text out : List ℕ} {r : LinkAnswer} {out′ : List ℕ} (call :
     where
       to : {r : LinkAnswer} {out′ : List ℕ} → LinkCase list text out r out′ → link-numbers r .number ≡ BADWORDS → BadList list (link-numbers r .place)
       to (bad-list bad) e = bad
-      to (bad-text {f = f} has bad) e = absurd (omega (arith, fault-apart f .1))
+      to (bad-text {f = f} has bad) e = absurd (omega (arith, fault-number-is f .high))
       to (over-full has reads over) e = absurd (omega arith)
       to (out-short has reads few short) e = absurd (omega arith)
       to (is-linked has reads few fits) e = absurd (omega arith)
 
-  -- of a right list: 11 and 13 to 16 exactly when the text has that fault, however many cells it has,
+  -- of a right list: a fault's number and place exactly when the text has that fault, however many cells it has,
   pub fault-exactly-when : {ws : List Word} → HasWords list ws → (f : TextFault) → Faulty text f ↔ (link-numbers r ≡ refusal (Text f))
   fault-exactly-when has f = (λ bad. link-refused (Text f) .0 (rows-11-to-16 has bad), λ h. go (link-refused (Text f) .1 h) refl)
     where

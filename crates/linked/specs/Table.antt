@@ -17,7 +17,7 @@ use Rattle.demands.specs.Words.{READ}
 use Rattle.linked.specs.Lists.{BadList, HasWords}
 use Rattle.linked.specs.Words.{HasPlan, linked-by, refusal}
 
--- the text's own faults, as they now stand: the rows 13 to 16 do not look at the number of cells, so it may be any
+-- the text's own faults, as they now stand: the rows 13 to 16, 21 to 25 for 14, do not look at the number of cells, so it may be any
 pub data Faulty (text : List ℕ) : TextFault → Type 0 where
   row-11 : textLimit < length text → Faulty text TooLong
   rows-13-to-16 : (n : ℕ) {f : TextFault} → length text ≤ textLimit → Row tokenLimit n text (BadText f) → Faulty text f

@@ -1,4 +1,5 @@
--- The answer table about acceptance as a whole and about the output: 11 to 17 exactly when their rows say, then 18.
+-- The answer table about acceptance as a whole and about the output: 11 to 17, with 21 to 25 for 14, exactly when
+-- their rows say, then 18.
 use Prim.Native.Nat.{ℕ, _≤_, _<_}
 use mathlib.Core.Path.{_≡_, refl, sym, subst, _∙_}
 use mathlib.Core.Bool.{Bool, true, false, cond}
@@ -34,7 +35,7 @@ refuses-refused lim n text (bad-arena h g) = rw (le-ltb (lim .text) (length text
 refuses-refused lim n text (bad-text h g row) =
     rw (le-ltb (lim .text) (length text) h, le-ltb (lim .cells) n g) (row-refused row)
 
--- a call is refused with 11 to 17 exactly when the row says, and no other row then does
+-- a call is refused with 11 to 17 or 21 to 25 exactly when the row says, and no other row then does
 pub refuses-iff : (lim : Limits) (n : ℕ) (text : List ℕ) (r : Refusal) → (accept lim n text ≡ REFUSED r) ↔ Refuses lim n text r
 refuses-iff lim n text r = (refused-refuses lim n text, refuses-refused lim n text)
 

@@ -1,4 +1,4 @@
--- The rows 13 to 17 of the table are what reading refuses: each number exactly when its row says, at its row's place.
+-- The rows 13 to 17 of the table, 21 to 25 for 14, are what reading refuses: each number exactly when its row says, at its row's place.
 use Prim.Native.Nat.{ℕ, zero, suc, _+_, _≤_, _<_}
 use mathlib.Core.Path.{_≡_, refl, ap, sym, _∙_, subst}
 use mathlib.Core.Bool.{Bool, true, false, cond}
@@ -282,7 +282,7 @@ pub refused-row : (limit n : ℕ) (text : List ℕ) {r : Refusal} → read limit
 unfolding read
 refused-row limit n text h = row-of refl (verdict limit text 0 0 outermost end 0 (omega arith) (omega arith)) h
 
--- each refusal number of 13 to 17 exactly when its row of the table says, with that row's place
+-- each refusal number of 13 to 17 and 21 to 25 exactly when its row of the table says, with that row's place
 pub refused-iff : (limit n : ℕ) (text : List ℕ) (r : Refusal) → (read limit n text ≡ REFUSED r) ↔ Row limit n text r
 refused-iff limit n text r = (λ e. refused-row limit n text e, λ h. row-refused h)
 

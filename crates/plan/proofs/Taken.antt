@@ -19,7 +19,7 @@ use Rattle.plan.proofs.Utf8.{character-bytes, character-frame, characte
 
 -- whole characters that a token may hold
 pub data Taken : List ℕ → Type 0 where
-  start : Taken []
+  none-yet : Taken []
   further : (u c : List ℕ) {x : ℕ} → Taken u → character c ≡ Whole x (length c) → may-hold x ≡ true → Taken (u ++ c)
 
 own-length : (bs : List ℕ) {x w : ℕ} → character bs ≡ Whole x w → length (take w bs) ≡ w
@@ -53,7 +53,7 @@ one-passed [] rest e h = absurd (omega (arith, character-width [] e))
 one-passed (b ∷ c) rest e h = rw (extended (b ∷ c) rest e, h, sub-one) (passed-over c rest)
 
 scanned-passed : (u rest : List ℕ) → Taken u → all-permitted 0 (u ++ rest) ≡ all-permitted 0 rest
-scanned-passed _ rest start = refl
+scanned-passed _ rest none-yet = refl
 scanned-passed _ rest (further u c s e h) = rw append-assoc (scanned-passed u (c ++ rest) s ∙ one-passed c rest e h)
 
 pub scanned-allowed :
@@ -91,7 +91,7 @@ taken-then (suc k) u t short s e = taken-on u t s e (λ u′ t′ shorter. taken
 
 -- the bytes that an allowed token holds
 pub permitted-taken : (t : List ℕ) → all-permitted 0 t ≡ true → Taken t
-permitted-taken t e = taken-then (length t) [] t (omega arith) start e
+permitted-taken t e = taken-then (length t) [] t (omega arith) none-yet e
 
 -- a byte that is a character which a token may not hold is not among what has been taken
 one-not-held : (c : List ℕ) {x : ℕ} → character c ≡ Whole x (length c) → may-hold x ≡ true
@@ -106,7 +106,7 @@ one-not-held (a ∷ c) e h b low unheld (suc i) l z =
     absurd (omega (arith, high, z))
 
 taken-not-held : (b : ℕ) → b < 128 → may-hold b ≡ false → (u : List ℕ) → Taken u → (i : ℕ) → i < length u → getD u i 0 ≢ b
-taken-not-held b low unheld _ start i l z = absurd (omega arith)
+taken-not-held b low unheld _ none-yet i l z = absurd (omega arith)
 taken-not-held b low unheld _ (further u c s e h) i l z =
     elim (decLe (length u) i) [
       | yes p ↦

@@ -44,7 +44,7 @@ use Rattle.plan.proofs.MayHold.{beyond, closing, control, late-control,
 use Rattle.plan.proofs.Options.{Each}
 use Rattle.plan.proofs.Tests.{false-is-not-true, never}
 use Rattle.plan.proofs.Tokens.{allowed-parts, token-text-at, token-text-finds}
-use Rattle.plan.proofs.Taken.{Taken, start, further, byte-not-held, extended, permitted-taken, scanned-allowed, scanned-step}
+use Rattle.plan.proofs.Taken.{Taken, none-yet, further, byte-not-held, extended, permitted-taken, scanned-allowed, scanned-step}
 use Rattle.plan.proofs.Utf8.{character-bytes, character-high, character-one, character-width}
 
 -- what no token may hold, its braces aside, is what `may-hold` refuses
@@ -64,9 +64,9 @@ unheld-never v h o c = go (ltb v 0x20) refl (ltb v 0x7F) refl (ltb 0x9F v) refl 
     go false a false b true d false e = false-is-not-true (sym h ∙ sym (beyond v (ltb-true _ _ d) (eqb-false _ _ e)))
 
 -- a byte below 128 is a character
-one-byte : (b : ℕ) (rest : List ℕ) → b < 128 → character (b ∷ rest) ≡ Whole b 1
+low-character : (b : ℕ) (rest : List ℕ) → b < 128 → character (b ∷ rest) ≡ Whole b 1
 unfolding character
-one-byte b rest low = rw (lt-ltb b 128 low)
+low-character b rest low = rw (lt-ltb b 128 low)
 
 -- every fault stands before the first `}`, an empty token's at it
 
@@ -121,7 +121,7 @@ one-behind c rest {x} e (behind {i} {v} {width = w} s is n) = go (one-behind c r
         inr (omega arith, subst (CharacterAt rest) here (behind s′ (ap character dropped ∙ is) n))
 
 taken-behind : {u : List ℕ} → Taken u → (v : List ℕ) {j : ℕ} → CharacterAt (u ++ v) j → length u ≤ j → CharacterAt v (j - length u)
-taken-behind start v {j} s l = subst (CharacterAt v) (let same : j ≡ j - 0 = omega arith in same) s
+taken-behind none-yet v {j} s l = subst (CharacterAt v) (let same : j ≡ j - 0 = omega arith in same) s
 taken-behind (further u c t e h) v {j} s l =
     let joined = length-append u c in
     let s′ = taken-behind t (c ++ v) (rw append-assoc at s) (omega (arith, joined)) in
@@ -136,7 +136,7 @@ taken-behind (further u c t e h) v {j} s l =
 -- where a character begins in what was taken, it is one that a token may hold
 taken-at : {u : List ℕ} → Taken u → (v : List ℕ) {j : ℕ} → CharacterAt (u ++ v) j → j < length u
     → (x : ℕ) × (w : ℕ) × (character (drop j (u ++ v)) ≡ Whole x w) × (may-hold x ≡ true)
-taken-at start v s l = absurd (omega arith)
+taken-at none-yet v s l = absurd (omega arith)
 taken-at (further u c {x} t e h) v {j} s l =
     let s′ = rw append-assoc at s in
     elim (decLe (length u) j) [
@@ -171,10 +171,10 @@ module _ {u : List ℕ} (t : Taken u) (v : List ℕ) where
       false-is-not-true (sym (never-may-hold y h) ∙ (rw same at (c .3)))
   within (inner-brace l′ n e) l = absurd (none-taken open-brace (omega arith) (sym (opening open-brace refl)) l e)
 
--- what is wrong with a character at which a token cannot go on
-unfoldable wrong : Character → TokenFault
-wrong Malformed = BadUtf8
-wrong (Whole v width) = unheld v
+-- the fault of a character at which a token cannot go on
+unfoldable fault-of : Character → TokenFault
+fault-of Malformed = BadUtf8
+fault-of (Whole v width) = unheld v
 
 not-braces : (v : ℕ) → NeverHeld v → (v ≢ open-brace) × (v ≢ close-brace)
 not-braces v (inl h) = (λ z. omega arith, λ z. omega arith)
@@ -206,25 +206,25 @@ low-byte (b ∷ v) low e =
       | no p ↦ sym (character-one b v e (omega arith) .0)
     ]
 
-low-wrong : (v : List ℕ) → 0 < length v → (b : ℕ) → b < 128 → getD v 0 0 ≡ b → wrong (character v) ≡ unheld b
-unfolding wrong
-low-wrong [] l b low e = absurd (omega arith)
-low-wrong (a ∷ v) l b low e = rw (e, one-byte b v low)
+low-fault : (v : List ℕ) → 0 < length v → (b : ℕ) → b < 128 → getD v 0 0 ≡ b → fault-of (character v) ≡ unheld b
+unfolding fault-of
+low-fault [] l b low e = absurd (omega arith)
+low-fault (a ∷ v) l b low e = rw (e, low-character b v low)
 
 -- behind what was taken one fault stands at the next byte at most, unless the token is too long there
 module _ {u : List ℕ} (t : Taken u) (v : List ℕ) (some-byte : 0 < length v) where
   here : {limit j : ℕ} {g : TokenFault} → (j ≡ limit - 2 → getD v 0 0 ≡ close-brace) → FaultAt limit (u ++ v) j g → j ≡ length u
-      → g ≡ wrong (character v)
-  unfolding wrong unheld
-  here short (nothing-between e) h = sym (low-wrong v some-byte close-brace (omega arith) (sym (next-byte u v h) ∙ ap (λ bs. getD bs 0 0) e))
+      → g ≡ fault-of (character v)
+  unfolding fault-of unheld
+  here short (nothing-between e) h = sym (low-fault v some-byte close-brace (omega arith) (sym (next-byte u v h) ∙ ap (λ bs. getD bs 0 0) e))
   here short (too-long {i = j} at l n) h = absurd (n j (omega arith) (next-byte u v h ∙ short at))
   here short (text-ends at l n) h = absurd (omega (arith, at, h, some-byte, length-append u v))
   here short (no-character {i = j} s l e) h =
-      ap wrong (sym e ∙ ap character (drop-at u v j (sym h)))
+      ap fault-of (sym e ∙ ap character (drop-at u v j (sym h)))
   here short (never-held {i = j} {v = x} s e n) h =
       let other = not-braces x n in
-      forbidden-unheld x (other .0) (other .1) ∙ ap wrong (sym e ∙ ap character (drop-at u v j (sym h)))
-  here short (inner-brace l n e) h = sym (low-wrong v some-byte open-brace (omega arith) (sym (next-byte u v h) ∙ e))
+      forbidden-unheld x (other .0) (other .1) ∙ ap fault-of (sym e ∙ ap character (drop-at u v j (sym h)))
+  here short (inner-brace l n e) h = sym (low-fault v some-byte open-brace (omega arith) (sym (next-byte u v h) ∙ e))
 
 -- the first fault
 
@@ -270,7 +270,7 @@ held-no-brace x h z = false-is-not-true (closing x z ∙ h)
 
 -- the next character begins behind what was taken
 taken-begins : {u : List ℕ} → Taken u → (v : List ℕ) → CharacterAt (u ++ v) (length u)
-taken-begins start v = first
+taken-begins none-yet v = first
 taken-begins (further u c {x} t e h) v =
     let s = behind (taken-begins t (c ++ v)) (ap character (drop-at u (c ++ v) (length u) refl) ∙ extended c v e) (held-no-brace x h) in
     rw (append-assoc, length-append) s
@@ -325,7 +325,7 @@ module _ {limit : ℕ} {u : List ℕ} (t : Taken u) (few : length u ≤ limit - 
 
 pub nothing-first : (limit : ℕ) (rest : List ℕ) → FirstFault limit (close-brace ∷ rest) 0 Empty
 nothing-first limit rest =
-    next-first {limit = limit} start (close-brace ∷ rest) (omega arith) (omega arith) (λ far. refl) (nothing-between refl)
+    next-first {limit = limit} none-yet (close-brace ∷ rest) (omega arith) (omega arith) (λ far. refl) (nothing-between refl)
 
 pub first-unique : {limit i j : ℕ} {bs : List ℕ} {f g : TokenFault} → FirstFault limit bs i f → FirstFault limit bs j g → (i ≡ j) × (f ≡ g)
 first-unique {limit} {i} {j} {bs} {f} {g} a b = go (a .before-others (b .stands)) (b .before-others (a .stands))
@@ -339,7 +339,7 @@ first-unique {limit} {i} {j} {bs} {f} {g} a b = go (a .before-others (b .stands)
     go (inr (x, inr e)) (inr (y, inr e′)) = (x, e ∙ sym e′)
 
 -- an allowed token has no fault
-pub found-faultless : {limit j : ℕ} {bs t : List ℕ} {f : TokenFault} → Found limit bs t → FaultAt limit bs j f → ⊥
+found-faultless : {limit j : ℕ} {bs t : List ℕ} {f : TokenFault} → Found limit bs t → FaultAt limit bs j f → ⊥
 found-faultless {limit} {j} {bs} {t} {f} found a =
     elim (decLe (suc (length t)) j) [
       | yes p ↦ stands-before a (length t) p (ap (λ us. getD us (length t) 0) (found .splits) ∙ getD-at t close-brace (found .rest) 0 (length t) refl)
@@ -361,7 +361,7 @@ found-faultless {limit} {j} {bs} {t} {f} found a =
     at-brace : j ≡ length t → ⊥
     at-brace same =
         let is = here taken (close-brace ∷ found .rest) (omega arith) (λ far. refl) a′ same in
-        let empty = is ∙ low-wrong (close-brace ∷ found .rest) (omega arith) close-brace (omega arith) refl ∙ brace-unheld in
+        let empty = is ∙ low-fault (close-brace ∷ found .rest) (omega arith) close-brace (omega arith) refl ∙ brace-unheld in
         omega (arith, empty-first a′ empty, parts .0)
 
 pub fault-no-token : {limit i : ℕ} {bs : List ℕ} {f : TokenFault} → FaultAt limit bs i f → token-text limit bs ≡ none
@@ -495,7 +495,7 @@ meets limit (suc k) u v short = meets-by u v (λ u′ v′ shorter. meets limit 
 pub first-met : (limit : ℕ) (bs : List ℕ) → token-text limit bs ≡ none
     → FirstFault limit bs (first-fault 0 (limit - 2) 0 bs .byte) (first-fault 0 (limit - 2) 0 bs .fault)
 first-met limit bs bad =
-    rw (sub-zero) at (meets limit (length bs) [] bs (omega arith) start (omega arith) bad)
+    rw (sub-zero) at (meets limit (length bs) [] bs (omega arith) none-yet (omega arith) bad)
 
 pub met-first : {limit i : ℕ} {bs : List ℕ} {f : TokenFault} → FirstFault limit bs i f → first-fault 0 (limit - 2) 0 bs ≡ met i f
 met-first {limit} {i} {bs} a =

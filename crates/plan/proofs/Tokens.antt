@@ -15,6 +15,7 @@ use Rattle.plan.specs.Options.{under}
 use Rattle.plan.specs.Plan.{close-brace}
 use Rattle.plan.specs.Token.{character, may-hold, permits, all-permitted, allowed, before-brace, if-allowed, token-text}
 use Rattle.plan.specs.Pieces.{Found}
+use Rattle.plan.proofs.MayHold.{closing}
 use Rattle.plan.proofs.Options.{Each, under-each}
 use Rattle.plan.proofs.Tests.{cond-cases, and-true, false-is-not-true}
 use Rattle.plan.proofs.Utf8.{character-bytes, character-one}
@@ -22,10 +23,6 @@ use Rattle.plan.proofs.Utf8.{character-bytes, character-one}
 abbrev pub NoBrace : List ℕ → Type 0
 NoBrace [] = Unit {0}
 NoBrace (b ∷ bs) = (b ≢ close-brace) × NoBrace bs
-
-may-not-hold-brace : may-hold close-brace ≡ false
-unfolding may-hold
-may-not-hold-brace = refl
 
 pub permits-parts : (c : Character) (after : ℕ → Bool) → permits c after ≡ true → (v : ℕ) × (w : ℕ) × (c ≡ Whole v w) × (may-hold v ≡ true) × (after (w - 1) ≡ true)
 unfolding permits
@@ -46,7 +43,7 @@ no-brace-from zero (b ∷ bs) high e =
       λ (z : b ≡ close-brace).
           let one = character-one b bs (c .2) (omega arith) in
           let v : c .0 ≡ close-brace = one .0 ∙ z in
-          false-is-not-true (sym may-not-hold-brace ∙ (rw v at (c .3))),
+          false-is-not-true (closing close-brace refl ∙ (rw v at (c .3))),
       no-brace-from (c .1 - 1) bs (λ i g. character-bytes b bs (c .2) (suc i) (omega arith) (omega arith)) (c .4),
     )
 

@@ -73,7 +73,7 @@ pub record Limits : Type 0 where
 abbrev pub standard : Limits
 standard = record { token = tokenLimit; cells = cellLimit; text = textLimit }
 
--- 11, 12, then 13 to 17, with n cells lent
+-- 11, 12, then 13 to 17 with 21 to 25 for 14, where n cells are lent
 unfoldable pub accept : Limits → (n : ℕ) → List ℕ → Reading
 accept lim n text =
     cond (ltb (lim .text) (length text)) (REFUSED (Text TooLong))

@@ -54,12 +54,14 @@ met i f = record { byte = i; fault = f }
 unfoldable pub unheld : ℕ → TokenFault
 unheld v = cond (eqb v close-brace) Empty (cond (eqb v open-brace) InnerBrace Forbidden)
 
+-- at a character: its own fault, or what comes after it
 unfoldable pub meet : (i : ℕ) → Character → (ℕ → Met) → Met
 meet i Malformed after = met i BadUtf8
 meet i (Whole v width) after = let further = after (width - 1) in cond (may-hold v) further (met i (unheld v))
 
 -- the first fault from byte i on, of bytes that are no allowed token's: so many may still come before the token is too long, and the
--- first `skip` belong to a character already looked at
+-- first `skip` belong to a character already looked at. Where none may come any more, a `}` is the first of these bytes: else the token
+-- would be allowed.
 unfoldable pub first-fault : (i left skip : ℕ) → List ℕ → Met
 first-fault i left skip [] = met i Long
 first-fault i zero skip (b ∷ bs) = met i (cond (eqb b close-brace) Empty Long)

@@ -29,7 +29,7 @@ use Rattle.plan.specs.declared.TokenFault.the-variants.{Empty, Long, BadUtf8, F
 use Rattle.plan.proofs.Blanks.{token-kept}
 use Rattle.plan.proofs.Classes.{class-byte}
 use Rattle.plan.proofs.MayHold.{opening}
-use Rattle.plan.proofs.Taken.{Taken, start, scanned-step, scanned-allowed}
+use Rattle.plan.proofs.Taken.{Taken, none-yet, scanned-step, scanned-allowed}
 use Rattle.plan.proofs.TokenFaults.{
   ends-first,
   forbidden-unheld,
@@ -41,6 +41,7 @@ use Rattle.plan.proofs.TokenFaults.{
   reaching-first,
   unheld-first,
 }
+use Rattle.plan.proofs.Tests.{never}
 use Rattle.plan.proofs.Tokens.{allowed-no-brace}
 use Rattle.plan.proofs.Utf8.{character-width}
 use Rattle.reader.specs.Counting.{closed, faulty, in-character, in-token, one-item, stepped, surveyed}
@@ -58,7 +59,7 @@ data NextSays (limit start at : ℕ) (text : List ℕ) : InToken → Type 0 wher
   empty : at < length text → getD text at 0 ≡ close-brace → at ≡ start + 1 → NextSays limit start at text (faulty Empty at)
   ends : at < length text → getD text at 0 ≡ close-brace → at ≢ start + 1 → NextSays limit start at text (Ends WholeToken)
   over : at < length text → getD text at 0 ≢ close-brace → at ≡ start + (limit - 1) → NextSays limit start at text (faulty Long at)
-  cut : at < length text → at ≢ start + (limit - 1) → character (drop at text) ≡ Malformed → NextSays limit start at text (faulty BadUtf8 at)
+  malformed : at < length text → at ≢ start + (limit - 1) → character (drop at text) ≡ Malformed → NextSays limit start at text (faulty BadUtf8 at)
   unheld-character : {v w : ℕ} {f : TokenFault} → getD text at 0 ≢ close-brace → at ≢ start + (limit - 1)
       → character (drop at text) ≡ Whole v w → may-hold v ≡ false → unheld v ≡ f → NextSays limit start at text (faulty f at)
   reaching : {v w last : ℕ} → character (drop at text) ≡ Whole v w → may-hold v ≡ true → last ≡ start + (limit - 1) → last ≤ at + (w - 1)
@@ -70,7 +71,7 @@ module _ (limit start at : ℕ) (text : List ℕ) where
   said-character : (l : at < length text) → getD text at 0 ≢ close-brace → at ≢ start + (limit - 1) → (x : Character) → character (drop at text) ≡ x
       → NextSays limit start at text (in-character (start + (limit - 1)) at x)
   unfolding in-character
-  said-character l c n Malformed e = cut l n e
+  said-character l c n Malformed e = malformed l n e
   said-character l c n (Whole v w) e =
       go (eqb v open-brace) refl (may-hold v) refl (leb (start + (limit - 1)) (at + (w - 1))) refl
     where
@@ -132,14 +133,14 @@ token-by-class n BAD at room e = token-is-not-stop (sym e)
 pub inside-start : {text : List ℕ} {room at : ℕ} {n : Count} → SurveySoFar text room n at → at < length text
     → Token ≡ stepped n (class (getD text at 0)) at room → TokenSoFar text room n at (at + 1)
 inside-start {text} {room} {at} {n} g h e =
-    let nothing-yet : at + 1 - at - 1 ≡ 0 = omega arith in
+    let none-passed : at + 1 - at - 1 ≡ 0 = omega arith in
     record {
       survey = g;
       starts = h;
       brace = token-by-class n (class (getD text at 0)) at room (sym e);
       ahead = omega arith;
       within = omega arith;
-      scanned = rw nothing-yet start;
+      scanned = rw none-passed none-yet;
       few = omega arith;
     }
 
@@ -172,46 +173,54 @@ module _ {text : List ℕ} {room at end : ℕ} {n : Count} (i′ : TokenSoFar te
   room-left : length (part text at end) ≤ tokenLimit - 2
   room-left = omega (arith, taken, i′ .few, i′ .ahead)
 
+  some-byte : end < length text → 0 < length (drop end text)
+  some-byte l = omega (arith, length-drop end text)
+
+  before-last : end ≢ at + (tokenLimit - 1) → length (part text at end) < tokenLimit - 2
+  before-last z = omega (arith, taken, i′ .few, i′ .ahead)
+
   next-byte : getD (drop end text) 0 0 ≡ getD text end 0
   next-byte = getD-drop end text 0 0 ∙ ap (λ k. getD text k 0) (add-zero end)
+
+  -- the same of a fault at the next byte
+  refused-next : {f g : TokenFault} {k : ℕ} {p : Place} → FirstFault tokenLimit (part text at end ++ drop end text) (length (part text at end)) f
+      → k ≡ end → faulty f k ≡ Ends (Faulty g p) → Refused (Text (BadToken g p)) ≡ surveyed (read tokenLimit room text)
+  refused-next first h = refused-token (length (part text at end)) first (omega (arith, h, taken, i′ .ahead))
 
   faults : {a : InToken} {f : TokenFault} {p : Place} → NextSays tokenLimit at end text a → a ≡ Ends (Faulty f p)
       → Refused (Text (BadToken f p)) ≡ surveyed (read tokenLimit room text)
   faults (text-end l) e =
-      refused-token (length (part text at end)) (subst (λ us. FirstFault tokenLimit (part text at end ++ us) (length (part text at end)) Long) (sym (drop-of-length-le text l)) (ends-first (i′ .scanned) room-left))
-      (omega (arith, taken, i′ .ahead)) e
+      refused-next (rw (drop-of-length-le text l) (ends-first (i′ .scanned) room-left)) (omega (arith, i′ .within)) e
   faults (empty l c z) e =
-      let nothing-yet : end - at - 1 ≡ 0 = omega arith in
-      refused-token 0 (rw (nothing-yet, drop-cons text end 0 l, c) (nothing-first tokenLimit (drop (suc end) text))) (omega arith) e
-  faults (ends l c z) e = absurd (let z : _≡_ {A = ℕ} 0 1 = cc in omega arith)
+      let none-passed : end - at - 1 ≡ 0 = omega arith in
+      refused-token 0 (rw (none-passed, drop-cons text end 0 l, c) (nothing-first tokenLimit (drop (suc end) text))) (omega arith) e
+  faults (ends l c z) e = never cc
   faults (over l c z) e =
-      refused-token (length (part text at end)) (over-first (i′ .scanned) room-left (drop end text) (omega (arith, taken)) (omega (arith, length-drop end text)) (λ h. c (sym next-byte ∙ h)))
-      (omega (arith, taken, i′ .ahead)) e
-  faults (cut l z x) e =
-      refused-token (length (part text at end)) (malformed-first (i′ .scanned) room-left (drop end text) (omega (arith, length-drop end text)) (omega (arith, taken, i′ .few, i′ .ahead)) x)
-      (omega (arith, taken, i′ .ahead)) e
+      let full : length (part text at end) ≡ tokenLimit - 2 = omega (arith, taken) in
+      refused-next (over-first (i′ .scanned) room-left (drop end text) full (some-byte l) (λ h. c (sym next-byte ∙ h))) refl e
+  faults (malformed l z x) e = refused-next (malformed-first (i′ .scanned) room-left (drop end text) (some-byte l) (before-last z) x) refl e
   faults (unheld-character {v = v} c z x h u) e =
       let other : v ≢ close-brace = λ (is : v ≡ close-brace). c (sym next-byte ∙ low-byte (drop end text) (omega arith) x ∙ is) in
-      refused-token (length (part text at end)) (subst (FirstFault tokenLimit (part text at end ++ drop end text) (length (part text at end))) u
-      (unheld-first (i′ .scanned) room-left (drop end text) (omega (arith, taken, i′ .few, i′ .ahead)) x h other))
-      (omega (arith, taken, i′ .ahead)) e
+      let first = unheld-first {limit = tokenLimit} (i′ .scanned) room-left (drop end text) (before-last z) x h other in
+      refused-next (rw u at first) refl e
   faults (reaching x h z l) e =
-      refused-token (tokenLimit - 2) (reaching-first (i′ .scanned) room-left (drop end text) x h (omega (arith, taken, i′ .ahead, character-width (drop end text) x .0)))
+      let wide = character-width (drop end text) x in
+      refused-token (tokenLimit - 2) (reaching-first (i′ .scanned) room-left (drop end text) x h (omega (arith, taken, i′ .ahead, wide .0)))
       (omega arith) e
-  faults (further x h l) e = absurd (let z : _≡_ {A = ℕ} 0 1 = cc in omega arith)
+  faults (further x h l) e = never cc
 
   pub inside-faulty : (f : TokenFault) (p : Place) → Ends (Faulty f p) ≡ in-token tokenLimit at end text
       → Refused (Text (BadToken f p)) ≡ surveyed (read tokenLimit room text)
   inside-faulty f p e = faults (said tokenLimit at end text) (sym e)
 
   goes-on : (w : ℕ) {a : InToken} → NextSays tokenLimit at end text a → a ≡ Further w → (1 ≤ w) × TokenSoFar text room n at (end + w)
-  goes-on w (text-end l) e = absurd (let z : _≡_ {A = ℕ} 0 1 = cc in omega arith)
-  goes-on w (empty l c z) e = absurd (let z : _≡_ {A = ℕ} 0 1 = cc in omega arith)
-  goes-on w (ends l c z) e = absurd (let z : _≡_ {A = ℕ} 0 1 = cc in omega arith)
-  goes-on w (over l c z) e = absurd (let z : _≡_ {A = ℕ} 0 1 = cc in omega arith)
-  goes-on w (cut l z x) e = absurd (let z : _≡_ {A = ℕ} 0 1 = cc in omega arith)
-  goes-on w (unheld-character c z x h u) e = absurd (let z : _≡_ {A = ℕ} 0 1 = cc in omega arith)
-  goes-on w (reaching x h z l) e = absurd (let z : _≡_ {A = ℕ} 0 1 = cc in omega arith)
+  goes-on w (text-end l) e = never cc
+  goes-on w (empty l c z) e = never cc
+  goes-on w (ends l c z) e = never cc
+  goes-on w (over l c z) e = never cc
+  goes-on w (malformed l z x) e = never cc
+  goes-on w (unheld-character c z x h u) e = never cc
+  goes-on w (reaching x h z l) e = never cc
   goes-on w (further {w = w′} x fine l) e =
       let same : w′ ≡ w = further-injective e in
       let wide = character-width (drop end text) x in (
@@ -233,15 +242,15 @@ module _ {text : List ℕ} {room at end : ℕ} {n : Count} (i′ : TokenSoFar te
 
   closing : {a : InToken} → NextSays tokenLimit at end text a → a ≡ Ends WholeToken
       → (end < length text) × (drop end text ≡ close-brace ∷ drop (suc end) text) × (1 ≤ end - at - 1)
-  closing (text-end l) e = absurd (let z : _≡_ {A = ℕ} 0 1 = cc in omega arith)
-  closing (empty l c z) e = absurd (let z : _≡_ {A = ℕ} 0 1 = cc in omega arith)
+  closing (text-end l) e = never cc
+  closing (empty l c z) e = never cc
   closing (ends l c z) e =
       (l, drop-cons text end 0 l ∙ ap (_∷ drop (suc end) text) c, omega (arith, i′ .ahead))
-  closing (over l c z) e = absurd (let z : _≡_ {A = ℕ} 0 1 = cc in omega arith)
-  closing (cut l z x) e = absurd (let z : _≡_ {A = ℕ} 0 1 = cc in omega arith)
-  closing (unheld-character c z x h u) e = absurd (let z : _≡_ {A = ℕ} 0 1 = cc in omega arith)
-  closing (reaching x h z l) e = absurd (let z : _≡_ {A = ℕ} 0 1 = cc in omega arith)
-  closing (further x h l) e = absurd (let z : _≡_ {A = ℕ} 0 1 = cc in omega arith)
+  closing (over l c z) e = never cc
+  closing (malformed l z x) e = never cc
+  closing (unheld-character c z x h u) e = never cc
+  closing (reaching x h z l) e = never cc
+  closing (further x h l) e = never cc
 
   -- the token from its `{` to its `}`
   abbrev piece : List ℕ

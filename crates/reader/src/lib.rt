@@ -152,6 +152,7 @@ fn token_character(text: &[u8], last: usize, at: usize) -> InToken
     let Character::Whole { value, width } = character_at(text, at) else {
         return faulty(TokenFault::BadUtf8, at);
     };
+    // A fault of its own stands at its first byte; whether it reaches the last one is asked of its last.
     let reached = at + (width as usize - 1);
     if value == OPEN_BRACE {
         return faulty(TokenFault::InnerBrace, at);

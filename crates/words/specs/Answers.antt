@@ -34,7 +34,7 @@ abbrev pub link-numbers : LinkAnswer → Numbers
 link-numbers (Linked cells length) = record { number = 3; steps = 0; cells = cells; length = length; place = 0 }
 link-numbers (Refused r) = record { number = link-refusal-number r; steps = 0; cells = 0; length = 0; place = link-refusal-place r }
 
--- 11, then 13 to 16: how many cells the text has does not matter
+-- 11, then 13 to 16 with 21 to 25 for 14: how many cells the text has does not matter
 unfoldable pub read-text : Limits → List ℕ → Reading
 read-text lim text = cond (ltb (lim .text) (length text)) (REFUSED (BadText TooLong)) (read-from (lim .token) 0 0 outermost end text)
 
