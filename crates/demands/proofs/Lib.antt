@@ -6,5 +6,6 @@ pub mod Meanings
 pub mod MoreNeverChanges
 pub mod Numbers
 pub mod OneAnswer
+pub mod PassedOn
 pub mod SavedTexts
 pub mod WithoutC

@@ -8,5 +8,6 @@ pub mod Meanings
 pub mod Numbers
 pub mod OneAnswer
 pub mod Order
+pub mod PassedOn
 pub mod Refused
 pub mod Saved

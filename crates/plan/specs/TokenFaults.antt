@@ -30,11 +30,17 @@ NeverHeld v = (v < 0x20) ⊎ (((0x7F ≤ v) × (v ≤ 0x9F)) ⊎ (v ≡ 0xFFFD))
 
 -- `FaultAt limit bs i f`: the fault f stands at byte i
 pub data FaultAt (limit : ℕ) (bs : List ℕ) : ℕ → TokenFault → Type 0 where
+  -- 21, nothing between the braces: the closing brace
   nothing-between : {rest : List ℕ} → bs ≡ close-brace ∷ rest → FaultAt limit bs 0 Empty
+  -- 22, the token's 64th byte is there and is not `}`, and no `}` stands before it: that byte
   too-long : {i : ℕ} → i ≡ limit - 2 → i < length bs → NoneBefore bs (suc i) → FaultAt limit bs i Long
+  -- 22, the text ends before that, with no `}`: the text's end
   text-ends : {i : ℕ} → i ≡ length bs → i ≤ limit - 2 → NoneBefore bs i → FaultAt limit bs i Long
+  -- 23, no well-formed character begins here: its first byte
   no-character : {i : ℕ} → CharacterAt bs i → i < length bs → character (drop i bs) ≡ Malformed → FaultAt limit bs i BadUtf8
+  -- 24, a character that no token may hold: its first byte
   never-held : {i v width : ℕ} → CharacterAt bs i → character (drop i bs) ≡ Whole v width → NeverHeld v → FaultAt limit bs i Forbidden
+  -- 25, a `{` in the token: that `{`
   inner-brace : {i : ℕ} → i < length bs → NoneBefore bs i → getD bs i 0 ≡ open-brace → FaultAt limit bs i InnerBrace
 
 -- the first by place, and at one place too long before every other
