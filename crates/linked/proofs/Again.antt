@@ -3,9 +3,9 @@ use Prim.Native.Nat.{ℕ, _≤_, _<_}
 use mathlib.Core.Path.{_≡_, refl, ap, ap₂, sym, subst, _∙_}
 use mathlib.Core.List.{List}
 use native.Mathlib.Omega.{arith}
-use borrow.Author.Tests.{le-leb, lt-leb, lt-ltb, le-ltb, ne-eqb}
+use borrow.Author.Tests.{le-leb, lt-leb, ne-eqb}
 use lib.ListN.{length}
-use Rattle.kinds.specs.Limits.{cellLimit, textLimit}
+use Rattle.kinds.specs.Limits.{cellLimit}
 use Rattle.plan.specs.declared.Answer.{Answer}
 use Rattle.plan.specs.declared.Answer.the-variants.{Refused}
 use Rattle.plan.specs.declared.Numbers.{Numbers}
@@ -13,8 +13,9 @@ use Rattle.plan.specs.declared.Refusal.the-variants.{Text as BadText}
 use Rattle.plan.specs.declared.TextFault.{TextFault}
 use Rattle.plan.specs.Pieces.{placed}
 use Rattle.plan.specs.Plan.{Plan, bare, cells, print}
-use Rattle.plan.specs.Reading.{REFUSED, fit, read}
+use Rattle.plan.specs.Reading.{REFUSED}
 use Rattle.plan.specs.Services.{accept, as-read, fault-number, numbers, reads, standard, tidy, write}
+use Rattle.plan.proofs.Answers.{refuses-iff}
 use Rattle.plan.proofs.ReadBack.{bare-placed}
 use Rattle.services.specs.Calls.{Tidies}
 use Rattle.words.specs.Answers.{link-numbers}
@@ -26,7 +27,7 @@ use Rattle.linking.specs.Calls.{Links}
 use Rattle.demands.specs.Words.{OVERFULL, READ}
 use Rattle.demands.proofs.Numbers.{fault-number-is}
 use Rattle.linked.specs.Lists.{HasWords}
-use Rattle.linked.specs.Table.{Faulty, LinkedAs, row-11, rows-13-to-16}
+use Rattle.linked.specs.Table.{Faulty, LinkedAs}
 use Rattle.linked.specs.Words.{IsLinked, HasPlan, linked-by, no-words, placeless, refusal, saved}
 use Rattle.linked.proofs.Cases.{
   LinkCase,
@@ -39,16 +40,14 @@ use Rattle.linked.proofs.Cases.{
   linked-by-words,
   out-short,
   over-full,
-  row-stops,
 }
 use Rattle.linked.proofs.Lists.{no-words-has, not-both, one-stock, words-right}
 use Rattle.linked.proofs.Meanings.{accepted-reads, bare-cells, bare-print, linked-back, linked-by-none, linked-same, reads-accepted, reads-over}
+use Rattle.linked.proofs.PassedOn.{faulty-refuses}
 
 -- TIDY refuses a text with a fault for that fault
 fault-refused : {text : List ℕ} {f : TextFault} → Faulty text f → accept standard cellLimit text ≡ REFUSED (BadText f)
-unfolding accept read fit
-fault-refused {text} (row-11 long) = rw (lt-ltb textLimit (length text) long)
-fault-refused {text} (rows-13-to-16 n short row) = rw (le-ltb textLimit (length text) short) (ap (fit cellLimit) (row-stops n text row))
+fault-refused {text} {f} bad = refuses-iff standard cellLimit text (BadText f) .1 (faulty-refuses bad)
 
 -- and tells the same five numbers of it
 fault-told : (f : TextFault) → refusal (Text f) ≡ placeless (numbers (Refused (BadText f)))

@@ -46,7 +46,7 @@ stopped-row n text {x} e = go (refused-row tokenLimit n text (ap (fit n) e)) e
     go (unclosed ok) e = (_, refl, unclosed ok)
     go (overfull before rest b split ok begins whole) e = plan-is-no-refusal (sym (text-read whole .reads) ∙ e)
 
-pub row-stops : (n : ℕ) (text : List ℕ) {f : TextFault} → Row tokenLimit n text (BadText f)
+row-stops : (n : ℕ) (text : List ℕ) {f : TextFault} → Row tokenLimit n text (BadText f)
     → read-from tokenLimit 0 0 outermost end text ≡ REFUSED (BadText f)
 unfolding read fit
 row-stops n text {f} row = go (read-from tokenLimit 0 0 outermost end text) refl (row-refused row)

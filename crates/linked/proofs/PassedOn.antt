@@ -28,7 +28,7 @@ use Rattle.linked.specs.Table.{Faulty, row-11, rows-13-to-16}
 use Rattle.linked.specs.Words.{refusal}
 use Rattle.linked.proofs.Refused.{fault-exactly-when}
 
-faulty-refuses : {text : List ℕ} {f : TextFault} → Faulty text f → Refuses standard cellLimit text (BadText f)
+pub faulty-refuses : {text : List ℕ} {f : TextFault} → Faulty text f → Refuses standard cellLimit text (BadText f)
 faulty-refuses (row-11 long) = too-long long
 faulty-refuses (rows-13-to-16 n short row) = bad-text short (omega arith) (same-row cellLimit row refl)
 

@@ -11,7 +11,7 @@ use Rattle.plan.specs.Leftmost.{takes, ReadyBehind, ReadyAt, items, Rewr
 use Rattle.plan.specs.Options.{_else_, under}
 use Rattle.plan.specs.Plan.{Operator, op-a, op-b, op-c, op-d, Plan, end, operator, token, block, _then_}
 use Rattle.plan.specs.Rewriting.{after-two, first-block, outer}
-use Rattle.plan.proofs.Options.{Each}
+use Rattle.plan.proofs.Options.{Each, some-is-not-none}
 use Rattle.plan.proofs.Plans.{then-assoc}
 
 takes-at-most : (o : Operator) → takes o ≤ 2
@@ -25,9 +25,6 @@ takes-one op-a = omega arith
 takes-one op-b = omega arith
 takes-one op-c = omega arith
 takes-one op-d = omega arith
-
-some-is-not-none : {A : Type 0} {a : A} → _≡_ {A = Option A} (some a) none → ⊥
-some-is-not-none e = let z : _≡_ {A = ℕ} 0 1 = cc in omega arith
 
 module _ {L : Type 0} where
   items-then : (p q : Plan L) → items (p then q) ≡ items p + items q

@@ -4,12 +4,15 @@ use mathlib.Core.Logic.{_↔_, _⊎_, ⊎-elim}
 use mathlib.Core.Bool.{true}
 use mathlib.Core.Option.{Option, none, some, IsSome}
 use Rattle.plan.specs.Options.{_else_, is-none, under}
-use Rattle.plan.proofs.Tests.{false-is-not-true}
+use Rattle.plan.proofs.Tests.{false-is-not-true, never}
 
 -- what holds of the value, if there is one
 abbrev pub Each : {A : Type 0} → (A → Type 0) → Option A → Type 0
 Each P none = Unit {0}
 Each P (some x) = P x
+
+pub some-is-not-none : {A : Type 0} {a : A} → _≡_ {A = Option A} (some a) none → ⊥
+some-is-not-none e = never cc
 
 module _ {A : Type 0} where
   pub else-each : (P : A → Type 0) (x y : Option A) → Each P x → Each P y → Each P (x else y)

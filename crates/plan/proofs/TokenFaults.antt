@@ -12,7 +12,7 @@ use native.Mathlib.Omega.{arith}
 use lib.Dec.{eqb, ltb}
 use lib.ListN.{length, getD, take, drop, length-append, length-drop, take-append-drop}
 use lib.Seq.{length-take-le, drop-at, drop-append-add, getD-at, getD-append-add, getD-drop}
-use borrow.Author.Tests.{eqb-true, eqb-false, ne-eqb, ltb-true, ltb-false, lt-ltb}
+use borrow.Author.Tests.{eqb-true, eqb-false, ne-eqb, ltb-true, ltb-false}
 use Rattle.plan.specs.declared.Character.{Character}
 use Rattle.plan.specs.declared.Character.the-variants.{Whole, Malformed}
 use Rattle.plan.specs.declared.TokenFault.{TokenFault}
@@ -41,11 +41,11 @@ use Rattle.plan.specs.TokenFaults.{
 }
 use Rattle.plan.specs.Pieces.{Found}
 use Rattle.plan.proofs.MayHold.{beyond, closing, control, late-control, opening, printing, replacement}
-use Rattle.plan.proofs.Options.{Each}
+use Rattle.plan.proofs.Options.{Each, some-is-not-none}
 use Rattle.plan.proofs.Tests.{false-is-not-true, never}
 use Rattle.plan.proofs.Tokens.{allowed-parts, token-text-at, token-text-finds}
 use Rattle.plan.proofs.Taken.{Taken, none-yet, further, byte-not-held, extended, permitted-taken, scanned-allowed, scanned-step}
-use Rattle.plan.proofs.Utf8.{character-bytes, character-high, character-one, character-width}
+use Rattle.plan.proofs.Utf8.{character-bytes, character-high, character-low, character-one, character-width}
 
 -- what no token may hold, its braces aside, is what `may-hold` refuses
 never-may-hold : (v : ℕ) → NeverHeld v → may-hold v ≡ false
@@ -62,11 +62,6 @@ unheld-never v h o c = go (ltb v 0x20) refl (ltb v 0x7F) refl (ltb 0x9F v) refl 
     go false a false b false d e e′ = inr (inl (ltb-false _ _ b, ltb-false _ _ d))
     go false a false b true d true e = inr (inr (eqb-true _ _ e))
     go false a false b true d false e = false-is-not-true (sym h ∙ sym (beyond v (ltb-true _ _ d) (eqb-false _ _ e)))
-
--- a byte below 128 is a character
-low-character : (b : ℕ) (rest : List ℕ) → b < 128 → character (b ∷ rest) ≡ Whole b 1
-unfolding character
-low-character b rest low = rw (lt-ltb b 128 low)
 
 -- every fault stands before the first `}`, an empty token's at it
 
@@ -209,14 +204,15 @@ low-byte (b ∷ v) low e =
 low-fault : (v : List ℕ) → 0 < length v → (b : ℕ) → b < 128 → getD v 0 0 ≡ b → fault-of (character v) ≡ unheld b
 unfolding fault-of
 low-fault [] l b low e = absurd (omega arith)
-low-fault (a ∷ v) l b low e = rw (e, low-character b v low)
+low-fault (a ∷ v) l b low e = rw (e, character-low b v low)
 
 -- behind what was taken one fault stands at the next byte at most, unless the token is too long there
 module _ {u : List ℕ} (t : Taken u) (v : List ℕ) (some-byte : 0 < length v) where
   here : {limit j : ℕ} {g : TokenFault} → (j ≡ limit - 2 → getD v 0 0 ≡ close-brace) → FaultAt limit (u ++ v) j g → j ≡ length u
       → g ≡ fault-of (character v)
-  unfolding fault-of unheld
-  here short (nothing-between e) h = sym (low-fault v some-byte close-brace (omega arith) (sym (next-byte u v h) ∙ ap (λ bs. getD bs 0 0) e))
+  unfolding fault-of
+  here short (nothing-between e) h =
+      sym (low-fault v some-byte close-brace (omega arith) (sym (next-byte u v h) ∙ ap (λ bs. getD bs 0 0) e) ∙ brace-unheld)
   here short (too-long {i = j} at l n) h = absurd (n j (omega arith) (next-byte u v h ∙ short at))
   here short (text-ends at l n) h = absurd (omega (arith, at, h, some-byte, length-append u v))
   here short (no-character {i = j} s l e) h =
@@ -224,45 +220,42 @@ module _ {u : List ℕ} (t : Taken u) (v : List ℕ) (some-byte : 0 < length v) 
   here short (never-held {i = j} {v = x} s e n) h =
       let other = not-braces x n in
       forbidden-unheld x (other .0) (other .1) ∙ ap fault-of (sym e ∙ ap character (drop-at u v j (sym h)))
-  here short (inner-brace l n e) h = sym (low-fault v some-byte open-brace (omega arith) (sym (next-byte u v h) ∙ e))
+  here short (inner-brace l n e) h = sym (low-fault v some-byte open-brace (omega arith) (sym (next-byte u v h) ∙ e) ∙ open-unheld)
 
 -- the first fault
 
+first-of : {limit i : ℕ} {bs : List ℕ} {f : TokenFault} → FaultAt limit bs i f → ((j : ℕ) (g : TokenFault) → FaultAt limit bs j g → i ≤ j)
+    → ((j : ℕ) (g : TokenFault) → FaultAt limit bs j g → j ≡ i → (f ≡ g) ⊎ (f ≡ Long)) → FirstFault limit bs i f
+first-of {limit} {i} {bs} {f} stands none-before others = record { stands = stands; before-others = λ {j} {g} a. go j g a }
+  where
+    go : (j : ℕ) (g : TokenFault) → FaultAt limit bs j g → (i < j) ⊎ ((i ≡ j) × ((f ≡ g) ⊎ (f ≡ Long)))
+    go j g a =
+        let after = none-before j g a in
+        elim (decLe (suc i) j) [
+          | yes p ↦ inl p
+          | no p ↦ let same : j ≡ i = omega arith in inr (sym same, others j g a same)
+        ]
+
+-- a fault in what was taken is at the limit, so none stands before what is not behind it
+none-below : {limit i : ℕ} {u : List ℕ} → Taken u → (v : List ℕ) → i ≤ length u → i ≤ limit - 2 → (j : ℕ) (g : TokenFault)
+    → FaultAt limit (u ++ v) j g → i ≤ j
+none-below {limit} {i} t v near few j g a =
+    elim (decLe i j) [
+      | yes p ↦ p
+      | no p ↦ absurd (let w = within t v a (omega arith) in omega (arith, w .0))
+    ]
+
 long-first : {limit : ℕ} {u : List ℕ} → Taken u → (v : List ℕ) → limit - 2 ≤ length u → limit - 2 < length (u ++ v)
     → NoneBefore (u ++ v) (suc (limit - 2)) → FirstFault limit (u ++ v) (limit - 2) Long
-long-first {limit} {u} t v far l n =
-    record { stands = too-long refl l n; before-others = λ {j} {g} a. go j a }
-  where
-    go : (j : ℕ) {g : TokenFault} → FaultAt limit (u ++ v) j g → (limit - 2 < j) ⊎ ((limit - 2 ≡ j) × ((Long ≡ g) ⊎ (Long ≡ Long)))
-    go j a =
-        elim (decLe (suc (limit - 2)) j) [
-          | yes p ↦ inl p
-          | no p ↦ elim (decLe (limit - 2) j) [
-            | yes q ↦ inr (omega arith, inr refl)
-            | no q ↦ absurd (let w = within t v a (omega arith) in omega (arith, w .0))
-          ]
-        ]
+long-first t v far l n = first-of (too-long refl l n) (none-below t v far (omega arith)) (λ j g a same. inr refl)
 
 -- the fault at the byte behind what was taken, if that is within the limit
 module _ {limit : ℕ} {u : List ℕ} (t : Taken u) (v : List ℕ) (few : length u ≤ limit - 2) where
-  at-next : {f : TokenFault} → FaultAt limit (u ++ v) (length u) f
-      → ((j : ℕ) (g : TokenFault) → FaultAt limit (u ++ v) j g → j ≡ length u → (f ≡ g) ⊎ (f ≡ Long)) → FirstFault limit (u ++ v) (length u) f
-  at-next {f} stands others = record { stands = stands; before-others = λ {j} {g} a. go j a }
-    where
-      go : (j : ℕ) {g : TokenFault} → FaultAt limit (u ++ v) j g → (length u < j) ⊎ ((length u ≡ j) × ((f ≡ g) ⊎ (f ≡ Long)))
-      go j a =
-          elim (decLe (suc (length u)) j) [
-            | yes p ↦ inl p
-            | no p ↦ elim (decLe (length u) j) [
-              | yes q ↦ let same : j ≡ length u = omega arith in inr (sym same, others j _ a same)
-              | no q ↦ absurd (let w = within t v a (omega arith) in omega (arith, w .0))
-            ]
-          ]
-
   next-first : 0 < length v → (length u ≡ limit - 2 → getD v 0 0 ≡ close-brace) → {f : TokenFault} → FaultAt limit (u ++ v) (length u) f
       → FirstFault limit (u ++ v) (length u) f
   next-first some-byte short stands =
-      at-next stands (λ j g a same. inl (here t v some-byte short stands refl ∙ sym (here t v some-byte (λ far. short (sym same ∙ far)) a same)))
+      first-of stands (none-below t v (omega arith) few)
+      (λ j g a same. inl (here t v some-byte short stands refl ∙ sym (here t v some-byte (λ far. short (sym same ∙ far)) a same)))
 
 -- a character that a token may hold is no `}`
 held-no-brace : (x : ℕ) → may-hold x ≡ true → x ≢ close-brace
@@ -278,7 +271,8 @@ taken-begins (further u c {x} t e h) v =
 -- Each way in which a token that goes on behind what was taken of it fails, and the first fault then.
 module _ {limit : ℕ} {u : List ℕ} (t : Taken u) (few : length u ≤ limit - 2) where
   pub ends-first : FirstFault limit (u ++ []) (length u) Long
-  ends-first = at-next t [] few (text-ends (omega (arith, length-append u [])) few (none-in-taken t [])) (λ j g a same. inr refl)
+  ends-first =
+      first-of (text-ends (omega (arith, length-append u [])) few (none-in-taken t [])) (none-below t [] (omega arith) few) (λ j g a same. inr refl)
 
   pub over-first : (v : List ℕ) → length u ≡ limit - 2 → 0 < length v → getD v 0 0 ≢ close-brace → FirstFault limit (u ++ v) (length u) Long
   over-first v full some-byte other =
@@ -307,7 +301,6 @@ module _ {limit : ℕ} {u : List ℕ} (t : Taken u) (few : length u ≤ limit - 
 
   pub unheld-first : (v : List ℕ) {x w : ℕ} → length u < limit - 2 → character v ≡ Whole x w → may-hold x ≡ false → x ≢ close-brace
       → FirstFault limit (u ++ v) (length u) (unheld x)
-  unfolding unheld
   unheld-first v {x} {w} room e h other =
       next-first t v few some-byte (λ far. absurd (omega arith)) (go (eqb x open-brace) refl)
     where
@@ -317,7 +310,9 @@ module _ {limit : ℕ} {u : List ℕ} (t : Taken u) (few : length u ≤ limit - 
       go : (o : Bool) → eqb x open-brace ≡ o → FaultAt limit (u ++ v) (length u) (unheld x)
       go true o =
           let is : x ≡ open-brace = eqb-true _ _ o in
-          rw is (inner-brace {i = length u} (omega (arith, some-byte, length-append u v)) (none-in-taken t v) (next-byte u v refl ∙ low-byte v (omega arith) (rw is at e)))
+          let byte = next-byte u v refl ∙ low-byte v (omega arith) (rw is at e) in
+          subst (FaultAt limit (u ++ v) (length u)) (sym (ap unheld is ∙ open-unheld))
+          (inner-brace (omega (arith, some-byte, length-append u v)) (none-in-taken t v) byte)
       go false o =
           let is : x ≢ open-brace = eqb-false _ _ o in
           subst (FaultAt limit (u ++ v) (length u)) (forbidden-unheld x is other)
@@ -396,16 +391,13 @@ met-behind i (suc left) (suc skip) (b ∷ bs) l h =
     met-behind (suc i) left skip bs (omega arith) (omega arith)
     ∙ ap₂ (λ k m. first-fault k m 0 (drop skip bs)) (let same : suc i + skip ≡ i + suc skip = omega arith in same) (let same : left - skip ≡ suc left - suc skip = omega arith in same)
 
-none-is-not-some : {A B : Type 0} {a : A} → none ≡ some a → B
-none-is-not-some e = never cc
-
 -- where bytes that are no allowed token's go on with a `}`, it is the first of them
 closes-first : {limit : ℕ} (u : List ℕ) (b : ℕ) (bs : List ℕ) → Taken u → length u ≤ limit - 2 → token-text limit (u ++ b ∷ bs) ≡ none
     → b ≡ close-brace → FirstFault limit (u ++ b ∷ bs) (length u) Empty
 closes-first {limit} [] b bs t few bad e = rw e (nothing-first limit bs)
 closes-first {limit} (a ∷ u) b bs t few bad e =
     let fine = scanned-allowed limit (a ∷ u) t (omega arith) (omega arith) in
-    none-is-not-some (sym bad ∙ ap (λ c. token-text limit (a ∷ u ++ c ∷ bs)) e ∙ token-text-at limit (a ∷ u) bs fine)
+    absurd (some-is-not-none (sym (token-text-at limit (a ∷ u) bs fine) ∙ ap (λ c. token-text limit (a ∷ u ++ c ∷ bs)) (sym e) ∙ bad))
 
 abbrev MeetsFrom : (limit : ℕ) → (u v : List ℕ) → Type 0
 MeetsFrom limit u v =

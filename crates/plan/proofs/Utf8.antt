@@ -177,6 +177,10 @@ spells-high (spell two h g l s) k = l
 spells-high (spell three h g l s) k = omega arith
 spells-high (spell four h g l s) k = omega arith
 
+-- a byte below 128 is a character
+pub character-low : (b : ℕ) (bs : List ℕ) → b < 128 → character (b ∷ bs) ≡ Whole b 1
+character-low b bs h = spells-character (alone b h) bs
+
 module _ (b : ℕ) (bs : List ℕ) {v w : ℕ} (e : character (b ∷ bs) ≡ Whole v w) where
   -- all bytes but the first are at least 128
   pub character-bytes : (k : ℕ) → 1 ≤ k → k < w → 128 ≤ getD (b ∷ bs) k 0
@@ -185,7 +189,7 @@ module _ (b : ℕ) (bs : List ℕ) {v w : ℕ} (e : character (b ∷ bs) ≡ Who
       rw (getD-take w (b ∷ bs) k 0 h) at (spells-bytes (r .1) k l (omega (arith, length-take w (b ∷ bs))))
 
   pub character-one : b < 128 → (v ≡ b) × (w ≡ 1)
-  character-one h = let p = spells-character (alone b h) bs in (cc, cc)
+  character-one h = let p = character-low b bs h in (cc, cc)
 
   -- a character of several bytes has a value of at least 128
   pub character-high : 128 ≤ b → 128 ≤ v

@@ -104,7 +104,7 @@ pub fn character_at(text: &[u8], at: usize) -> Character
 // The characters that open and close a token.
 pub const OPEN_BRACE: u32 = 0x7B;
 
-pub const CLOSE_BRACE: u32 = 0x7D;
+const CLOSE_BRACE: u32 = 0x7D;
 
 // Whether a token may hold the character of this value: no brace, no control character, no U+FFFD.
 pub fn may_hold(value: u32) -> bool
