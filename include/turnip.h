@@ -38,6 +38,10 @@ enum turnip_field {
     TURNIP_FIELDS
 };
 
+/* What means nothing: SP and LF outside tokens, and annotations, which are tokens whose text starts with &, as {&jit}. They are
+   no cells, they are not printed, and they do not stand between a block and an operator. An annotation is checked as every token
+   is, and refused with the same numbers. No text that a call writes holds one. */
+
 /* Which answer it is. 11 comes before 12; then 13, 15 and a token's fault, whichever stands first from the left, a token by its
    {; then 16, 17, 18. 21 to 25 say what is wrong with a token, and the first fault of a token is given: it stands before the
    token's }, or at it where nothing is between the braces. Where two stand at one byte, 22 is given. */
@@ -48,10 +52,11 @@ enum turnip_number {
     TURNIP_READ = 3,        /* CHECK, TIDY, LINK: the text is accepted, finished or not */
     TURNIP_TOOLONG = 11,    /* the text is over 1,048,576 bytes */
     TURNIP_BADARENA = 12,   /* RUN: the work memory gives more than 4,096 cells */
-    TURNIP_BADBYTE = 13,    /* a byte that means nothing outside tokens; its place */
+    TURNIP_BADBYTE = 13,    /* a byte that may not stand outside tokens; its place */
     TURNIP_UNMATCHED = 15,  /* a ] with no block open; its place */
     TURNIP_UNCLOSED = 16,   /* the text ends in an open block; the place is the text's length */
-    TURNIP_OVERFULL = 17,   /* more cells than there may be; the place is the first byte of the first item past them */
+    TURNIP_OVERFULL = 17,   /* more cells than there may be; the place is the first byte of the first item past them, which no
+                               annotation is */
     TURNIP_OUTSHORT = 18,   /* TIDY, RUN, LINK: the printed text is longer than the output; the place is the bytes needed */
     TURNIP_EMPTYTOKEN = 21, /* nothing between a token's braces; the place of its } */
     TURNIP_LONGTOKEN = 22,  /* a token's 64th byte, its { being the first, is not its }; that byte's place. Or the text ends in a
@@ -64,8 +69,8 @@ enum turnip_number {
 /* CHECK: whether a text is a plan, with the plan's cells and the length of its printed text. */
 void turnip_check(const uint8_t *text, size_t text_length, uint32_t answer[5]);
 
-/* TIDY: CHECK, and the printed text of the plan (the text with no SP and no LF outside tokens) written to the start of out.
-   The other bytes of out are as they were; after a refusal (11 to 25) all of them are. */
+/* TIDY: CHECK, and the printed text of the plan (the text with SP, LF and annotations outside tokens taken out) written to the
+   start of out. The other bytes of out are as they were; after a refusal (11 to 25) all of them are. */
 void turnip_tidy(const uint8_t *text, size_t text_length, uint8_t *out, size_t out_length, uint32_t answer[5]);
 
 /* RUN: rewrites the plan of a text at most quota times, in the work memory, and writes the printed text of what it then is to
@@ -79,7 +84,8 @@ void turnip_run(const uint8_t *text, size_t text_length, uint32_t quota, uint32_
 
 /* Stock words: a word list is a count, then for each word the bytes of its name, its name, the bytes of its text, its text; all
    counts are four bytes, lowest first. A word's rank is its number in the list, from 0. In a plan a token {%name} stands for the
-   word of that name; a word may use the words before it. To RUN such a token is a name like any other. */
+   word of that name; a word may use the words before it. To RUN such a token is a name like any other. Annotations, in a word's
+   text or in a plan's, mean nothing here too. */
 
 /* The numbers of LINK are 3, 11, 13, 15 to 18 and 21 to 25 as above, but that the place of 17 is 0, and this one, which comes
    before them all. */
@@ -97,7 +103,8 @@ void turnip_link(const uint8_t *list, size_t list_length, const uint8_t *text, s
 /* The roll of filed jobs: bytes that a clerk's program keeps on disk. A roll of no bytes lists nothing. Any other starts with
    the byte 1, and entries follow, one behind the other. An entry is its number of sections (2 for FILED: the job number and a
    text; 1 for DONE: the job number), then for each section the number of its bytes, and these. All such numbers are four
-   bytes, lowest first. A job number is 1 to 10 bytes 0 to 9; a text is a printed text, as TIDY and RUN write it.
+   bytes, lowest first. A job number is 1 to 10 bytes 0 to 9; a text is a printed text, as TIDY and RUN write it, so that it holds
+   no annotation.
 
    What stands behind the last whole entry is torn: a power cut left it. It is no part of the roll, and no reason to refuse
    it. A program that adds an entry cuts its file at the end that reading gave, writes the bytes from there to the new end,

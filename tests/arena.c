@@ -131,10 +131,17 @@ static uint32_t token_length(const uint8_t *bytes, size_t left, struct survey *f
     return at == 1 ? refuse(fault, TURNIP_EMPTYTOKEN, at) : at + 1;
 }
 
-/* The bytes of the item, close or blank at the front of `left` bytes, and what its cell would hold; 0 for a fault. */
+/* Whether the allowed token at the front of these bytes means nothing. */
+static int is_annotation(const uint8_t *token)
+{
+    return token[1] == '&';
+}
+
+/* The bytes of the item, close, blank or annotation at the front of `left` bytes, and what its cell would hold; 0 for a fault. */
 static uint32_t piece(const uint8_t *bytes, size_t left, uint32_t *kind, struct survey *fault)
 {
     enum { NO_ITEM = 6 };
+    uint32_t length;
 
     switch (bytes[0]) {
     case 'a': case 'b': case 'c': case 'd':
@@ -144,8 +151,9 @@ static uint32_t piece(const uint8_t *bytes, size_t left, uint32_t *kind, struct 
         *kind = BLOCK_KIND;
         return 1;
     case '{':
-        *kind = TOKEN_KIND;
-        return token_length(bytes, left, fault);
+        length = token_length(bytes, left, fault);
+        *kind = length == 0 || is_annotation(bytes) ? NO_ITEM : TOKEN_KIND;
+        return length;
     case ']': case ' ': case '\n':
         *kind = NO_ITEM;
         return 1;
@@ -243,7 +251,8 @@ static struct plan build_plan(const uint8_t *text, size_t len, uint32_t *memory,
             while (text[at + width] != '}')
                 width++;
             width++;
-            put_token(&plan, &build, at, width);
+            if (!is_annotation(text + at))
+                put_token(&plan, &build, at, width);
         }
     }
     set_link(&plan, build.tail, close_of(outer));

@@ -1,5 +1,5 @@
 /* How many rewrites a second RUN makes, beside the independent implementation (the twin) and beside a plain C engine of the
-   same design (the arena): three shapes of plan at four sizes each, so that growth shows. Each engine first gives its answers
+   same design (the arena): four shapes of plan at four sizes each, so that growth shows. Each engine first gives its answers
    on each input, and they must be the same. What is timed is a whole call, reading, printing and clearing among it; a call
    with quota 0, which makes no rewrite, is timed beside it so that a reader can subtract. Nothing here gates. */
 #define _POSIX_C_SOURCE 200809L /* for clock_gettime, which C11 has not */
@@ -14,7 +14,7 @@
 #include "turnip.h"
 #include "twin.h"
 
-enum { MOST_CELLS = 4096, TEXT_ROOM = 65536, OUT_ROOM = 64 * MOST_CELLS, ENGINES = 3, SHAPES = 3, SIZES = 4 };
+enum { MOST_CELLS = 4096, TEXT_ROOM = 65536, OUT_ROOM = 64 * MOST_CELLS, ENGINES = 3, SHAPES = 4, SIZES = 4 };
 
 /* Rounds go from engine to engine in turn and the best of them counts, so that other work on the machine meets all alike. */
 enum { ROUNDS = 5 };
@@ -55,7 +55,7 @@ struct outcome {
 
 static const uint32_t sizes[SIZES] = {64, 256, 1024, 4096};
 
-/* ---- The three shapes. ---- */
+/* ---- The four shapes. ---- */
 
 static void put(struct input *input, const char *piece, uint32_t times)
 {
@@ -98,10 +98,20 @@ static void deep_nesting(struct input *input)
     put(input, "]", input->cells / 2);
 }
 
+/* The first shape with annotations before, between and behind its items and at depth: they are no cells, and its rewrites are the
+   same. */
+static void annotated_rewrites(struct input *input)
+{
+    put(input, "{&}[{x}{&log}][{&}][]{&jit}ba{&a}ad{&jit}", input->cells / 8);
+}
+
 static const struct shape {
     const char *name;
     void (*write)(struct input *);
-} shapes[SHAPES] = {{"small rewrites", small_rewrites}, {"large copies", large_copies}, {"deep nesting", deep_nesting}};
+} shapes[SHAPES] = {{"small rewrites", small_rewrites},
+                    {"large copies", large_copies},
+                    {"deep nesting", deep_nesting},
+                    {"annotated rewrites", annotated_rewrites}};
 
 /* ---- All engines must answer alike. ---- */
 

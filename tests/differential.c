@@ -3,9 +3,11 @@
        differential SEED COUNT
 
    A case is one text, for which CHECK, TIDY and RUN are called, and compared: the five numbers, every byte of the outputs
-   and a few behind them, and every number of the work memory, which is to be 0. The first difference is told in full and ends
+   and a few behind them, and every number of the work memory, which is to be 0. One thing more is asked of the library alone:
+   what TIDY writes holds no annotation, and RUN answers to it as to the text. The first difference is told in full and ends
    the program with status 1. At last a plan nested to the limit is run on a small stack. Status 0: there were no differences,
-   and of 100,000 cases or more each service has given every answer that it can give. */
+   and of 100,000 cases or more each service has given every answer that it can give, and texts with annotations were accepted
+   and refused. */
 #include "generator.h"
 #include "small_stack.h"
 #include "turnip.h"
@@ -52,6 +54,7 @@ static struct text text;
 static uint32_t memory[MEMORY_ROOM + GUARD];
 static uint8_t our_out[OUT_ROOM + GUARD], twin_out[OUT_ROOM + GUARD];
 static unsigned long seen[SERVICES][NUMBERS];
+static unsigned long annotated[2]; /* texts that hold `{&`: those that CHECK refuses, and those that it accepts */
 static uint64_t rewrites, most_rewrites;
 
 struct numbered_case {
@@ -61,6 +64,7 @@ struct numbered_case {
     size_t memory_length;
     size_t out_length;
     uint32_t salt; /* what memory and output hold before a call depends on this */
+    bool tidied;   /* what TIDY writes is given, not the text itself */
 };
 
 static void tell_answer(const char *whose, const uint32_t answer[5])
@@ -72,8 +76,8 @@ static void tell_answer(const char *whose, const uint32_t answer[5])
 static void tell_difference(const struct numbered_case *made, enum service service, const char *what, const uint32_t ours[5],
                             const uint32_t twins[5])
 {
-    printf("DIFFERENCE in the %s: SEED %" PRIu64 " case %" PRIu64 ", %s\n", what, made->seed, made->number,
-           service_names[service]);
+    printf("DIFFERENCE in the %s: SEED %" PRIu64 " case %" PRIu64 ", %s%s\n", what, made->seed, made->number,
+           service_names[service], made->tidied ? " of the tidied text" : "");
     printf("quota %" PRIu32 ", memory %zu numbers, output %zu bytes, text of %zu bytes:\n", made->quota,
            made->memory_length, made->out_length, text.length);
     for (size_t i = 0; i < text.length; i++)
@@ -84,17 +88,13 @@ static void tell_difference(const struct numbered_case *made, enum service servi
     exit(1);
 }
 
-static void compare(const struct numbered_case *made, enum service service, const uint32_t ours[5], const uint32_t twins[5])
+static void count_answer(enum service service, const uint32_t answer[5])
 {
-    if (memcmp(ours, twins, 5 * sizeof *ours) != 0)
-        tell_difference(made, service, "five numbers", ours, twins);
-    if (service != CHECK && memcmp(our_out, twin_out, made->out_length + GUARD) != 0)
-        tell_difference(made, service, "output", ours, twins);
-    if (ours[TURNIP_NUMBER] < NUMBERS)
-        seen[service][ours[TURNIP_NUMBER]]++;
-    rewrites += ours[TURNIP_STEPS];
-    if (ours[TURNIP_STEPS] > most_rewrites)
-        most_rewrites = ours[TURNIP_STEPS];
+    if (answer[TURNIP_NUMBER] < NUMBERS)
+        seen[service][answer[TURNIP_NUMBER]]++;
+    rewrites += answer[TURNIP_STEPS];
+    if (answer[TURNIP_STEPS] > most_rewrites)
+        most_rewrites = answer[TURNIP_STEPS];
 }
 
 static uint32_t other_number(const struct numbered_case *made, size_t at)
@@ -102,10 +102,10 @@ static uint32_t other_number(const struct numbered_case *made, size_t at)
     return (made->salt + (uint32_t)at) * 2654435761u | 1;
 }
 
-static void fill_outputs(const struct numbered_case *made)
+static void fill_output(const struct numbered_case *made, uint8_t *out)
 {
     for (size_t i = 0; i < made->out_length + GUARD; i++)
-        our_out[i] = twin_out[i] = (uint8_t)(other_number(made, i) >> 24);
+        out[i] = (uint8_t)(other_number(made, i) >> 24);
 }
 
 static void fill_memory(const struct numbered_case *made)
@@ -125,6 +125,16 @@ static bool memory_as_promised(const struct numbered_case *made)
     return true;
 }
 
+static void compare(const struct numbered_case *made, enum service service, const uint32_t ours[5], const uint32_t twins[5])
+{
+    if (memcmp(ours, twins, 5 * sizeof *ours) != 0)
+        tell_difference(made, service, "five numbers", ours, twins);
+    if (service != CHECK && memcmp(our_out, twin_out, made->out_length + GUARD) != 0)
+        tell_difference(made, service, "output", ours, twins);
+    if (service == RUN && !memory_as_promised(made))
+        tell_difference(made, service, "work memory", ours, twins);
+}
+
 /* An answer that no call leaves behind. */
 static void spoil(uint32_t answer[5])
 {
@@ -139,13 +149,16 @@ static void check_and_tidy(struct draws *draws, struct numbered_case *made, cons
     turnip_check(text.bytes, text.length, ours);
     twin_tell(result, twins);
     compare(made, CHECK, ours, twins);
+    count_answer(CHECK, ours);
 
     made->out_length = make_out_length(draws, result->length);
-    fill_outputs(made);
+    fill_output(made, our_out);
+    fill_output(made, twin_out);
     spoil(ours);
     turnip_tidy(text.bytes, text.length, our_out, made->out_length, ours);
     twin_write(result, twin_out, made->out_length, twins);
     compare(made, TIDY, ours, twins);
+    count_answer(TIDY, ours);
 }
 
 /* The twin's run, and quota and memory of it: of a run that ends by itself, often one at the edge of its quota. */
@@ -169,20 +182,46 @@ static struct twin_result twin_run_drawn(struct draws *draws, struct numbered_ca
     return result;
 }
 
+static void library_run(const struct numbered_case *made, const uint8_t *bytes, size_t length, uint32_t ours[5])
+{
+    fill_output(made, our_out);
+    fill_memory(made);
+    spoil(ours);
+    turnip_run(bytes, length, made->quota, memory, made->memory_length, our_out, made->out_length, ours);
+}
+
+/* "A token whose text starts with `&` ... means nothing": what TIDY writes of an accepted text holds none, and RUN answers to it
+   as it did to the text, but for OVERFULL's place, which is one in what is given. */
+static void run_tidied(struct numbered_case made, const uint32_t of_text[5])
+{
+    static uint8_t tidied[OUT_ROOM];
+    uint32_t read[5], ours[5];
+    turnip_tidy(text.bytes, text.length, tidied, sizeof tidied, read);
+    if (read[TURNIP_NUMBER] != TURNIP_READ)
+        return;
+    if (opens_annotation(tidied, read[TURNIP_LENGTH]))
+        tell_difference(&made, TIDY, "annotations, of which TIDY wrote one", read, read);
+    if (read[TURNIP_LENGTH] == text.length)
+        return;
+    made.tidied = true;
+    library_run(&made, tidied, read[TURNIP_LENGTH], ours);
+    if (ours[TURNIP_NUMBER] == TURNIP_OVERFULL)
+        ours[TURNIP_PLACE] = of_text[TURNIP_PLACE];
+    compare(&made, RUN, ours, of_text);
+}
+
 static void run(struct draws *draws, struct numbered_case *made, size_t cells)
 {
     uint32_t ours[5], twins[5];
     struct twin_result result = twin_run_drawn(draws, made, cells);
     made->out_length = make_out_length(draws, result.length);
-    fill_outputs(made);
-    fill_memory(made);
-    spoil(ours);
-    turnip_run(text.bytes, text.length, made->quota, memory, made->memory_length, our_out, made->out_length, ours);
+    fill_output(made, twin_out);
     twin_write(&result, twin_out, made->out_length, twins);
-    compare(made, RUN, ours, twins);
-    if (!memory_as_promised(made))
-        tell_difference(made, RUN, "work memory", ours, twins);
     twin_free(&result);
+    library_run(made, text.bytes, text.length, ours);
+    compare(made, RUN, ours, twins);
+    count_answer(RUN, ours);
+    run_tidied(*made, ours);
 }
 
 static void compare_case(uint64_t seed, uint64_t number)
@@ -191,6 +230,8 @@ static void compare_case(uint64_t seed, uint64_t number)
     struct numbered_case made = {.seed = seed, .number = number, .salt = (uint32_t)number};
     make_text(&draws, &text);
     struct twin_result result = twin_read(text.bytes, text.length);
+    if (opens_annotation(text.bytes, text.length))
+        annotated[result.number == TURNIP_READ]++;
     check_and_tidy(&draws, &made, &result);
     run(&draws, &made, result.cells);
     twin_free(&result);
@@ -205,13 +246,14 @@ static void tell_seen(void)
                 printf("  %d: %lu", number, seen[service][number]);
         printf("\n");
     }
+    printf("annotations in %lu texts that were accepted, and {& in %lu that were refused\n", annotated[1], annotated[0]);
     printf("rewrites %" PRIu64 ", at most %" PRIu64 " in one run\n", rewrites, most_rewrites);
 }
 
-/* Whether every answer has come up; those that did not are told. */
+/* Whether every answer has come up, and annotations have; answers that did not are told. */
 static bool all_came_up(void)
 {
-    bool all = true;
+    bool all = annotated[0] > 0 && annotated[1] > 0;
     for (int service = 0; service < SERVICES; service++) {
         for (size_t i = 0; i < sizeof possible / sizeof *possible; i++) {
             if (possible[i].of[service] && seen[service][possible[i].number] == 0) {

@@ -1,10 +1,10 @@
 /* How the cases are made. A shape is drawn first: plans at random, pieces of known combinators, plans that double, deep
-   nesting, tokens at their limits, what is wrong with a token at each of its edges, texts at their limits, damaged texts. Sizes
-   are small most often, since many short runs reach more corners than few long ones. Bytes past a text's room are dropped, so no
-   shape has to count. */
+   nesting, tokens at their limits, what is wrong with a token at each of its edges, annotations alone and about the limit of
+   cells, texts at their limits, damaged texts. What means nothing, blanks and annotations, may stand among the items of every
+   shape. Sizes are small most often, since many short runs reach more corners than few long ones. Bytes past a text's room are
+   dropped, so no shape has to count. */
 #include "generator.h"
 
-#include <stdbool.h>
 #include <string.h>
 
 /* splitmix64 */
@@ -32,14 +32,28 @@ static bool one_in(struct draws *draws, size_t n)
     return below(draws, n) == 0;
 }
 
-/* A text in the making. */
+bool opens_annotation(const uint8_t *bytes, size_t length)
+{
+    for (size_t i = 1; i < length; i++)
+        if (bytes[i - 1] == '{' && bytes[i] == '&')
+            return true;
+    return false;
+}
+
+/* A text in the making. Of what is put one time in so many, 0 is never. */
 struct maker {
     struct draws *draws;
     struct text *text;
-    size_t blanks;      /* a blank before an item, one time in so many; 0: never */
-    size_t fancy;       /* a token of many kinds of characters, one time in so many; 0: never */
     const char *letters; /* the operators, some more often than others */
+    size_t blanks;       /* a blank before an item, one time in so many */
+    size_t annotations;  /* an annotation before an item, one time in so many */
+    size_t fancy;        /* a token of many kinds of characters, one time in so many */
 };
+
+static bool at_times(struct maker *maker, size_t in_so_many)
+{
+    return in_so_many != 0 && one_in(maker->draws, in_so_many);
+}
 
 static void put(struct maker *maker, uint8_t byte)
 {
@@ -87,8 +101,8 @@ static void put_code(struct maker *maker, uint32_t code)
 /* An allowed character near an edge of what is allowed. */
 static uint32_t good_code(struct draws *draws)
 {
-    static const uint32_t codes[] = {' ', '!', 'a', 'c', '[', ']', 'z', '|', '~', 0xa0, 0xe9, 0x7ff, 0x800, 0x20ac, 0xd7ff,
-                                     0xe000, 0xfffc, 0xfffe, 0xffff, 0x10000, 0x1f600, 0xfffff, 0x100000, 0x10ffff};
+    static const uint32_t codes[] = {' ', '!', '%', '&', 'a', 'c', '[', ']', 'z', '|', '~', 0xa0, 0xe9, 0x7ff, 0x800, 0x20ac,
+                                     0xd7ff, 0xe000, 0xfffc, 0xfffe, 0xffff, 0x10000, 0x1f600, 0xfffff, 0x100000, 0x10ffff};
     return codes[below(draws, sizeof codes / sizeof *codes)];
 }
 
@@ -109,18 +123,40 @@ static void put_characters(struct maker *maker, size_t bytes)
     }
 }
 
-/* A token of so many bytes. */
-static void put_long_token(struct maker *maker, size_t length)
+/* The front of a token that is an annotation at times. */
+static const char *token_front(struct draws *draws)
 {
-    put(maker, '{');
-    put_characters(maker, length - 2);
+    return one_in(draws, 3) ? "{&" : "{";
+}
+
+/* A token of so many bytes that starts with a front. */
+static void put_long_token(struct maker *maker, const char *front, size_t length)
+{
+    put_string(maker, front);
+    put_characters(maker, length - strlen(front) - 1);
     put(maker, '}');
+}
+
+static size_t token_length(struct draws *draws)
+{
+    return one_in(draws, 4) ? 64 : 3 + below(draws, 62);
+}
+
+/* A token with a `&` behind its text's start, which makes it no annotation; the last two are stock words'. */
+static void put_almost_annotation(struct maker *maker)
+{
+    static const char *const tokens[] = {"{x&}", "{x&y}", "{ &}", "{a&&}", "{]&d}", "{\xc3\xa9&jit}", "{%&x}", "{%&}"};
+    put_string(maker, tokens[below(maker->draws, sizeof tokens / sizeof *tokens)]);
 }
 
 static void put_token(struct maker *maker)
 {
-    if (maker->fancy != 0 && one_in(maker->draws, maker->fancy)) {
-        put_long_token(maker, one_in(maker->draws, 4) ? 64 : 3 + below(maker->draws, 62));
+    if (at_times(maker, maker->fancy)) {
+        put_long_token(maker, "{", token_length(maker->draws));
+        return;
+    }
+    if (maker->annotations != 0 && one_in(maker->draws, 2)) {
+        put_almost_annotation(maker);
         return;
     }
     put(maker, '{');
@@ -128,15 +164,52 @@ static void put_token(struct maker *maker)
     put(maker, '}');
 }
 
-static void put_blanks(struct maker *maker)
+/* An annotation: a known one, of a text that would mean something elsewhere, or one of any length. */
+static void put_annotation(struct maker *maker)
 {
-    while (maker->blanks != 0 && one_in(maker->draws, maker->blanks))
-        put(maker, one_in(maker->draws, 3) ? '\n' : ' ');
+    static const char *const known[] = {"{&}", "{&}", "{&jit}", "{&a}", "{& }", "{&&}", "{&%p}", "{&]}", "{&[]d}", "{&\xc3\xa9}"};
+    if (one_in(maker->draws, 4))
+        put_long_token(maker, "{&", token_length(maker->draws));
+    else
+        put_string(maker, known[below(maker->draws, sizeof known / sizeof *known)]);
+}
+
+void add_annotation(struct draws *draws, struct text *text)
+{
+    struct maker maker = {.draws = draws, .text = text};
+    put_annotation(&maker);
+}
+
+/* What means nothing, blanks and annotations; or no byte. */
+static void put_nothings(struct maker *maker)
+{
+    for (;;) {
+        if (at_times(maker, maker->blanks))
+            put(maker, one_in(maker->draws, 3) ? '\n' : ' ');
+        else if (at_times(maker, maker->annotations))
+            put_annotation(maker);
+        else
+            return;
+    }
+}
+
+/* A piece of a plan so many times, with what means nothing before each item and each end of a block. */
+static void put_pieces(struct maker *maker, const char *piece, size_t times)
+{
+    for (; times > 0; times--) {
+        bool in_token = false;
+        for (const char *byte = piece; *byte != 0; byte++) {
+            if (!in_token)
+                put_nothings(maker);
+            put(maker, (uint8_t)*byte);
+            in_token = *byte == '{' || (in_token && *byte != '}');
+        }
+    }
 }
 
 static void put_operator(struct maker *maker)
 {
-    put_blanks(maker);
+    put_nothings(maker);
     put(maker, (uint8_t)maker->letters[below(maker->draws, strlen(maker->letters))]);
 }
 
@@ -145,10 +218,10 @@ static void put_items(struct maker *maker, size_t items);
 /* A block, and inside it so many items, those of inner blocks counted too. */
 static void put_block(struct maker *maker, size_t inside)
 {
-    put_blanks(maker);
+    put_nothings(maker);
     put(maker, '[');
     put_items(maker, inside);
-    put_blanks(maker);
+    put_nothings(maker);
     put(maker, ']');
 }
 
@@ -170,14 +243,14 @@ static void put_items(struct maker *maker, size_t items)
             items -= inside;
             break;
         case 6:
-            put_blanks(maker);
+            put_nothings(maker);
             put_token(maker);
             break;
         default:
             put_operator(maker);
         }
     }
-    put_blanks(maker);
+    put_nothings(maker);
 }
 
 static void small_plan(struct maker *maker)
@@ -204,10 +277,10 @@ static void pieces(struct maker *maker)
     for (size_t left = 1 + below(maker->draws, 12); left > 0; left--) {
         const char *piece = known[below(maker->draws, sizeof known / sizeof *known)];
         bool inside = one_in(maker->draws, 4);
-        put_blanks(maker);
+        put_nothings(maker);
         if (inside)
             put(maker, '[');
-        put_string(maker, piece);
+        put_pieces(maker, piece, 1);
         if (inside)
             put(maker, ']');
     }
@@ -219,21 +292,21 @@ static void doubling(struct maker *maker)
     size_t times = below(maker->draws, 14);
     switch (below(maker->draws, 4)) {
     case 0:
-        put_string(maker, "[c[][]baad]c[][]baad");
+        put_pieces(maker, "[c[][]baad]c[][]baad", 1);
         break;
     case 1:
         put_items(maker, below(maker->draws, 4));
-        put_string(maker, "[[c[][]baad]c[][]baad]");
+        put_pieces(maker, "[[c[][]baad]c[][]baad]", 1);
         put_items(maker, below(maker->draws, 4));
         break;
     case 2:
         put_block(maker, below(maker->draws, 6));
-        put_times(maker, "cb", times);
+        put_pieces(maker, "cb", times);
         break;
     default:
         put_block(maker, 1 + below(maker->draws, 6));
-        put_times(maker, "c", times);
-        put_times(maker, "b", below(maker->draws, times + 1));
+        put_pieces(maker, "c", times);
+        put_pieces(maker, "b", below(maker->draws, times + 1));
     }
 }
 
@@ -242,9 +315,9 @@ static void nested(struct maker *maker)
 {
     size_t depth = one_in(maker->draws, 3) ? 4080 + below(maker->draws, 20) : 1 + below(maker->draws, 300);
     size_t closed = one_in(maker->draws, 12) ? depth - 1 + below(maker->draws, 3) : depth;
-    put_times(maker, "[", depth);
+    put_pieces(maker, "[", depth);
     put_items(maker, below(maker->draws, 6));
-    put_times(maker, "]", closed);
+    put_pieces(maker, "]", closed);
     put_items(maker, below(maker->draws, 4));
 }
 
@@ -270,25 +343,27 @@ static void put_bad_character(struct maker *maker)
 static void put_bad_token(struct maker *maker)
 {
     size_t before = below(maker->draws, 8), behind = below(maker->draws, 8);
+    const char *front = token_front(maker->draws);
     switch (below(maker->draws, 6)) {
     case 0:
         put_string(maker, "{}");
         break;
     case 1:
-        put_long_token(maker, 65 + below(maker->draws, 3));
+        put_long_token(maker, front, 65 + below(maker->draws, 3));
         break;
     case 2:
-        put_string(maker, "{x");
+        put_string(maker, front);
+        put_times(maker, "x", behind);
         break;
     case 3: case 4:
-        put(maker, '{');
+        put_string(maker, front);
         put_times(maker, "x", before);
         put_bad_character(maker);
         put_times(maker, "y", behind);
         put(maker, '}');
         break;
     default:
-        put(maker, '{');
+        put_string(maker, front);
         for (size_t i = 0; i < 1 + before; i++)
             put(maker, (uint8_t)(0x80 + below(maker->draws, 128)));
         put(maker, '}');
@@ -302,7 +377,7 @@ static void tokens(struct maker *maker)
     for (size_t left = below(maker->draws, 5); left > 0; left--) {
         put_items(maker, below(maker->draws, 4));
         if (one_in(maker->draws, 3))
-            put_long_token(maker, 62 + below(maker->draws, 4));
+            put_long_token(maker, token_front(maker->draws), 62 + below(maker->draws, 4));
         else
             put_token(maker);
     }
@@ -348,11 +423,13 @@ static void put_at_edge(struct maker *maker)
 }
 
 /* A { with good characters up to an edge, and there one to three things or none; then a }, or more characters first, or no }
-   at all, so that the text's end comes next or whatever is put behind. It may be a token. */
+   at all, so that the text's end comes next or whatever is put behind. It may be a token, and an annotation. */
 static void put_edge_token(struct maker *maker)
 {
-    put(maker, '{');
-    put_characters(maker, token_edge(maker->draws) - 2);
+    const char *front = token_front(maker->draws);
+    size_t edge = token_edge(maker->draws), begun = strlen(front);
+    put_string(maker, front);
+    put_characters(maker, edge > begun ? edge - begun - 1 : 0);
     for (size_t left = below(maker->draws, 4); left > 0; left--)
         put_at_edge(maker);
     if (one_in(maker->draws, 4))
@@ -363,7 +440,7 @@ static void put_edge_token(struct maker *maker)
 
 void add_edge_token(struct draws *draws, struct text *text)
 {
-    struct maker maker = {draws, text, 0, 0, "abcd"};
+    struct maker maker = {.draws = draws, .text = text};
     put_edge_token(&maker);
 }
 
@@ -372,15 +449,15 @@ static void put_cut_token(struct maker *maker)
 {
     struct text *text = maker->text;
     size_t end = text->length + token_edge(maker->draws) - 1;
-    put(maker, '{');
+    put_string(maker, token_front(maker->draws));
     put_characters(maker, FURTHEST_EDGE);
     text->length = end < text->length ? end : text->length;
 }
 
-/* A fault behind a fault, of tokens at their edges, bytes and brackets: the first must be told. */
+/* A fault behind a fault, of tokens at their edges, bytes and brackets: the first must be told. An annotation may come first. */
 static void edges(struct maker *maker)
 {
-    static const char *const others[] = {"]", "#", "}", "{}", "[", "\xc3\xa9"};
+    static const char *const others[] = {"]", "#", "}", "{}", "[", "\xc3\xa9", "&", "{&}"};
     put_items(maker, below(maker->draws, 3));
     for (size_t left = below(maker->draws, 3); left > 0; left--) {
         if (one_in(maker->draws, 4))
@@ -396,10 +473,38 @@ static void edges(struct maker *maker)
     }
 }
 
+/* The empty plan, in other words. */
+static void annotations_alone(struct maker *maker)
+{
+    for (size_t left = 1 + below(maker->draws, 5); left > 0; left--) {
+        put_annotation(maker);
+        put_nothings(maker);
+    }
+}
+
+/* About as many cells as there may be, with annotations before, among and behind them: one that was counted would be one too
+   many. There is often one right before the first item past the limit, so that their places are told apart. */
+static void about_limit(struct maker *maker)
+{
+    static const char *const kinds[] = {"a", "[", "{x}", "[]", "{x&}"};
+    const char *cell = kinds[below(maker->draws, sizeof kinds / sizeof *kinds)];
+    size_t cells = CELLS_AT_MOST - 2 + below(maker->draws, 5);
+    bool opening = strcmp(cell, "[") == 0;
+    maker->annotations = 2;
+    for (size_t i = 0; i < cells; i++) {
+        if (i == 0 || i == CELLS_AT_MOST || one_in(maker->draws, 300))
+            put_nothings(maker);
+        put_string(maker, cell);
+    }
+    put_nothings(maker);
+    put_times(maker, "]", opening ? cells : 0);
+    put_nothings(maker);
+}
+
 /* Bytes at random, most of them such as plans are made of. */
 static void scribble(struct maker *maker)
 {
-    static const char usual[] = "abcd[[[]]]{}x \n";
+    static const char usual[] = "abcd[[[]]]{}{}&x \n";
     for (size_t left = below(maker->draws, 24); left > 0; left--) {
         if (one_in(maker->draws, 40))
             put(maker, (uint8_t)below(maker->draws, 256));
@@ -408,11 +513,11 @@ static void scribble(struct maker *maker)
     }
 }
 
-/* A text of the longest length, or one byte longer or shorter: a small plan and then blanks, blocks that open, operators, or
-   tokens. */
+/* A text of the longest length, or one byte longer or shorter: a small plan and then blanks, blocks that open, operators, tokens
+   or annotations. */
 static void longest(struct maker *maker)
 {
-    static const char *const filling[] = {" ", "[", "a", "{x}", "[]", "\n"};
+    static const char *const filling[] = {" ", "[", "a", "{x}", "[]", "\n", "{&}", "{&jit}"};
     const char *fill = filling[below(maker->draws, sizeof filling / sizeof *filling)];
     size_t length = TEXT_LIMIT_BYTES - 1 + below(maker->draws, 3);
     if (one_in(maker->draws, 2))
@@ -445,14 +550,14 @@ static void put_any_byte(struct maker *maker)
 
 static void put_mark(struct maker *maker)
 {
-    put(maker, (uint8_t)"[]{}"[below(maker->draws, 4)]);
+    put(maker, (uint8_t)"[]{}&"[below(maker->draws, 5)]);
 }
 
 static void damage(struct maker *maker)
 {
     struct text *text = maker->text;
     size_t at = below(maker->draws, text->length);
-    switch (below(maker->draws, 7)) {
+    switch (below(maker->draws, 8)) {
     case 0:
         if (text->length > 0)
             text->bytes[at] = (uint8_t)below(maker->draws, 256);
@@ -467,6 +572,9 @@ static void damage(struct maker *maker)
         put_inside(maker, put_bad_token);
         break;
     case 5:
+        put_inside(maker, put_annotation);
+        break;
+    case 6:
         text->length = at;
         break;
     default:
@@ -487,15 +595,21 @@ static void damaged(struct maker *maker)
 void make_text(struct draws *draws, struct text *text)
 {
     static const char *const letters[] = {"abcd", "abd", "aabbcd", "abcccd", "bd", "ab"};
-    struct maker maker = {draws, text, 0, 0, letters[below(draws, sizeof letters / sizeof *letters)]};
+    struct maker maker = {.draws = draws, .text = text, .letters = letters[below(draws, sizeof letters / sizeof *letters)]};
     text->length = 0;
     if (one_in(draws, 3))
         maker.blanks = 2 + below(draws, 8);
+    if (one_in(draws, 3))
+        maker.annotations = 2 + below(draws, 8);
     if (one_in(draws, 8))
         maker.fancy = 3;
     size_t shape = below(draws, 2000);
-    if (shape < 700)
+    if (shape < 660)
         small_plan(&maker);
+    else if (shape < 690)
+        annotations_alone(&maker);
+    else if (shape < 700)
+        about_limit(&maker);
     else if (shape < 1000)
         pieces(&maker);
     else if (shape < 1160)

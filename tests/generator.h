@@ -3,6 +3,7 @@
 #ifndef GENERATOR_H
 #define GENERATOR_H
 
+#include <stdbool.h>
 #include <stddef.h>
 #include <stdint.h>
 
@@ -27,6 +28,12 @@ void make_text(struct draws *draws, struct text *text);
 
 /* Adds a { to a text, and something at an edge of the token that it opens: most often what no token may hold there. */
 void add_edge_token(struct draws *draws, struct text *text);
+
+/* Adds an annotation to a text. */
+void add_annotation(struct draws *draws, struct text *text);
+
+/* Whether bytes hold `{&`. In a text that is accepted this always opens an annotation, as no token holds a {. */
+bool opens_annotation(const uint8_t *bytes, size_t length);
 
 /* A length of work memory for a plan that has so many cells, and at most so many during its run. */
 size_t make_memory_length(struct draws *draws, size_t cells, size_t most);

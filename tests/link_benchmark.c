@@ -17,7 +17,7 @@
 #include "link_twin.h"
 
 enum { MOST_WORDS = 256, MOST_CELLS = 4096, MOST_BYTES = 1048576, TOKEN_BYTES = 64, NAME_BYTES = 61 };
-enum { LINKERS = 4, TIMED = 3, SHAPES = 8, USES = 4096, PRINTED = TOKEN_BYTES * MOST_CELLS };
+enum { LINKERS = 4, TIMED = 3, SHAPES = 9, USES = 4096, PRINTED = TOKEN_BYTES * MOST_CELLS };
 
 /* Rounds go from linker to linker in turn and the best of them counts, so that other work beside them meets all alike. */
 enum { ROUNDS = 3 };
@@ -80,6 +80,12 @@ static size_t token_bytes(const uint8_t *bytes, size_t left, struct survey *surv
     return 0;
 }
 
+/* Whether a blank or an allowed annotation starts here. */
+static bool means_nothing(const uint8_t *bytes)
+{
+    return bytes[0] == ' ' || bytes[0] == '\n' || (bytes[0] == '{' && bytes[1] == '&');
+}
+
 /* The bytes of what starts here, 0 where it is refused. */
 static size_t survey_item(struct survey *survey, const uint8_t *bytes, size_t left, size_t *depth)
 {
@@ -93,6 +99,8 @@ static size_t survey_item(struct survey *survey, const uint8_t *bytes, size_t le
         return (*depth)-- > 0;
     case '{':
         width = token_bytes(bytes, left, survey);
+        if (width == 0 || means_nothing(bytes))
+            return width;
         break;
     case '[':
         ++*depth;
@@ -221,7 +229,7 @@ static bool weigh(const struct linker *linker, const uint8_t *text, size_t text_
             used = used_rank(linker, text + at, text_length - at, &width);
         if (used < linker->count && used >= rank && used < least)
             least = used;
-        if (sum->cells > MOST_CELLS || text[at] == ' ' || text[at] == '\n')
+        if (sum->cells > MOST_CELLS || means_nothing(text + at))
             continue;
         sum->cells += used < rank ? linker->words[used].cells : text[at] != ']';
         sum->length += used < rank ? linker->words[used].length : width;
@@ -283,7 +291,7 @@ static void write_text(struct linker *linker, const uint8_t *text, size_t length
             used = used_rank(linker, text + at, length - at, &width);
         if (used < linker->count) {
             write_word(linker, &linker->words[used]);
-        } else if (text[at] != ' ' && text[at] != '\n') {
+        } else if (!means_nothing(text + at)) {
             memcpy(linker->out + linker->written, text + at, width);
             linker->written += width;
         }
@@ -357,8 +365,8 @@ struct input {
 };
 
 /* A list, as growing_list makes it; how often the text uses its last word; and what this must answer. After those that are
-   asked for come three that tell what a use costs: to find its word, to go through other words to it, and to pass its blanks
-   again. */
+   asked for come four that tell what a use costs: to find its word, to go through other words to it, and to pass its blanks
+   again, or an annotation. */
 static const struct shape {
     const char *name;
     size_t words, uses, blocks, blanks; /* blanks: before the first word's text */
@@ -374,6 +382,7 @@ static const struct shape {
     {"4,096 uses of the last of 256 words", MOST_WORDS, 0, 0, 0, "a", "a", USES, TURNIP_READ, USES},
     {"4,096 uses of the last of 16 words, each the next", 16, 1, 0, 0, "a", "", USES, TURNIP_READ, USES},
     {"4,096 uses of one word with 4,096 blanks", 1, 0, 0, 4096, "a", "", USES, TURNIP_READ, USES},
+    {"4,096 uses of one word with an annotation", 1, 0, 0, 0, "{&jit}a", "", USES, TURNIP_READ, USES},
 };
 
 static void write_input(const struct shape *shape, struct input *input)

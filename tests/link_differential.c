@@ -3,10 +3,11 @@
        link_differential SEED COUNT
 
    A case is one word list and one text. Library and twin link them into outputs that were filled alike, and are compared:
-   the five numbers, every byte of the outputs, and a few behind. Two things more are asked of the library alone: what it
-   linked is linked again, which must change nothing; and the text is linked by the list of no words, which must give what
-   TIDY gives, but for OVERFULL's place. The first few differences are told in full. Then come the longest lists on a small
-   stack (link_small_stack.h). Status 0: there were no differences, and of 10,000 cases or more each answer has come up. */
+   the five numbers, every byte of the outputs, and a few behind. Three things more are asked of the library alone: what it
+   linked is linked again, which must change nothing; the text is linked by the list of no words, which must give what TIDY
+   gives, but for OVERFULL's place; and the text as TIDY writes it is linked, which must give what the text gives. The first few
+   differences are told in full. Then come the longest lists on a small stack (link_small_stack.h). Status 0: there were no
+   differences, and of 10,000 cases or more each answer has come up, and annotations in texts and in words that were linked. */
 #include <inttypes.h>
 #include <stdbool.h>
 #include <stdio.h>
@@ -48,6 +49,7 @@ static struct word_list list;
 static struct text text;
 static struct side library, other;
 static unsigned long seen[NUMBERS], seen_ranks[WORDS_AT_MOST + 1];
+static unsigned long annotated_texts, annotated_lists; /* that were linked */
 static uint64_t differences;
 
 /* ---- Telling. ---- */
@@ -169,6 +171,30 @@ static void compare_with_tidy(struct asked asked)
     compare(&asked);
 }
 
+/* "A word's text or a plan text with annotations links as without them." */
+static void compare_with_tidied(struct asked asked)
+{
+    static uint8_t tidied[OUT_ROOM];
+    uint32_t read[5];
+    turnip_tidy(asked.text, asked.text_length, tidied, sizeof tidied, read);
+    if (read[TURNIP_NUMBER] != TURNIP_READ || read[TURNIP_LENGTH] == asked.text_length)
+        return;
+    asked.compared = "the tidied text";
+    link_by_library(&asked);
+    lend(&asked, &other);
+    turnip_link(asked.list, asked.list_length, tidied, read[TURNIP_LENGTH], other.out, asked.out_length, other.answer);
+    compare(&asked);
+}
+
+/* Of list and text that are linked, `{&` opens an annotation in each text that it stands in; no name holds a {. */
+static void count_annotated(const struct asked *asked)
+{
+    if (other.answer[TURNIP_NUMBER] != TURNIP_READ)
+        return;
+    annotated_texts += opens_annotation(asked->text, asked->text_length);
+    annotated_lists += opens_annotation(asked->list, asked->list_length);
+}
+
 /* How long the linked text is, if there is one, so that the output can be about as long. */
 static size_t linked_length(void)
 {
@@ -190,8 +216,10 @@ static void compare_case(uint64_t seed, uint64_t number)
         .out_length = make_out_length(&draws, linked_length()),
     };
     compare_with_twin(asked);
+    count_annotated(&asked);
     compare_with_linked(asked);
     compare_with_tidy(asked);
+    compare_with_tidied(asked);
 }
 
 /* ---- What came up. ---- */
@@ -206,12 +234,13 @@ static void tell_seen(void)
         if (seen[number] > 0)
             printf("  %d: %lu", number, seen[number]);
     printf(", at %zu ranks\n", ranks);
+    printf("linked, with annotations: %lu texts, %lu lists\n", annotated_texts, annotated_lists);
 }
 
-/* Whether every answer has come up; those that did not are told. */
+/* Whether every answer has come up, and annotations have; answers that did not are told. */
 static bool all_came_up(void)
 {
-    bool all = true;
+    bool all = annotated_texts > 0 && annotated_lists > 0;
     for (size_t i = 0; i < sizeof possible / sizeof *possible; i++) {
         if (seen[possible[i]] == 0) {
             printf("link never answered %" PRIu32 "\n", possible[i]);

@@ -1,8 +1,8 @@
 /* How the lists are made. The names are drawn first, so that a text can use a word that stands later; then the flaws, none
    or a few, each at a rank, so that the least of several ranks is asked for; then the words are put one behind the other,
    and the list may be cut, continued and damaged. Texts are made of the same items, with the words of smaller ranks among
-   them. Lists and texts are short most often, since many short ones reach more corners than few long ones. Bytes past a room
-   are dropped, so nothing has to count. */
+   them, and blanks and annotations before, between and behind. Lists and texts are short most often, since many short ones
+   reach more corners than few long ones. Bytes past a room are dropped, so nothing has to count. */
 #include "link_generator.h"
 
 #include <stdbool.h>
@@ -53,10 +53,12 @@ static bool same_name(const struct name *one, const struct name *other)
     return one->length == other->length && memcmp(one->bytes, other->bytes, one->length) == 0;
 }
 
-/* Some are the front of others, or differ in one byte, in a blank, in what looks alike, or in a `%` more. */
+/* Some are the front of others, or differ in one byte, in a blank, in what looks alike, or in a `%` more. A `&` in a name makes
+   no annotation of its token, whose text starts with `%`. */
 static const char *const known_names[] = {
     "a", "b", "c", "d", "p", "q", "scan", "sca", "scan ", " scan", "scan1", "scan2", "Scan", "%", "%%", "%a", "%p%", " ", "  ",
-    "[", "]", "[]d", "&", "&jit", "x y", "none", "many", "\xc3\xa9", "e\xcc\x81", "\xe2\x82\xac", "\xf0\x9f\x98\x80",
+    "[", "]", "[]d", "&", "&jit", "&x", "x&", "x&y", "x y", "none", "many", "\xc3\xa9", "e\xcc\x81", "\xe2\x82\xac",
+    "\xf0\x9f\x98\x80",
 };
 
 static const char *const allowed_characters[] = {
@@ -64,12 +66,13 @@ static const char *const allowed_characters[] = {
     "\xed\x9f\xbf", "\xee\x80\x80", "\xef\xbf\xbc", "\xef\xbf\xbe", "\xf0\x90\x80\x80", "\xf4\x8f\xbf\xbf",
 };
 
-/* Characters, and bytes that are none, that no token may hold; the last two end one token and may begin another. */
+/* Characters, and bytes that are none, that no token may hold; the last three end one token and may begin another, or an
+   annotation. */
 static const struct piece forbidden[] = {
     PIECE("\0"), PIECE("\n"), PIECE("\x1f"), PIECE("\x7f"), PIECE("\xc2\x80"), PIECE("\xc2\x9f"), PIECE("\xef\xbf\xbd"),
     PIECE("{"), PIECE("\x80"), PIECE("\xbf"), PIECE("\xc0\xaf"), PIECE("\xc1\xbf"), PIECE("\xc3"), PIECE("\xe2\x82"),
     PIECE("\xe0\x9f\xbf"), PIECE("\xed\xa0\x80"), PIECE("\xf0\x8f\xbf\xbf"), PIECE("\xf4\x90\x80\x80"),
-    PIECE("\xf0\x9f\x98"), PIECE("\xfe"), PIECE("\xff"), PIECE("}"), PIECE("}{"),
+    PIECE("\xf0\x9f\x98"), PIECE("\xfe"), PIECE("\xff"), PIECE("}"), PIECE("}{"), PIECE("}{&"),
 };
 
 /* A name of so many bytes, of allowed characters as long as they fit, and then of letters. */
@@ -140,13 +143,14 @@ static void draw_names(struct draws *draws, struct word_list *list, size_t words
 
 /* ---- Texts. ---- */
 
-/* A text in the making. */
+/* A text in the making. Of what is put one time in so many, 0 is never. */
 struct maker {
     struct draws *draws;
     struct text *text;
     const struct word_list *list;
-    size_t usable; /* words of smaller ranks than this are used */
-    size_t blanks; /* a blank before an item, one time in so many; 0: never */
+    size_t usable;      /* words of smaller ranks than this are used */
+    size_t blanks;      /* a blank before an item, one time in so many */
+    size_t annotations; /* an annotation before an item, one time in so many */
 };
 
 static void put(struct text *text, const void *bytes, size_t length)
@@ -175,17 +179,29 @@ static void put_use(struct text *text, const struct name *name)
     put_string(text, "}");
 }
 
-static void put_blanks(struct maker *maker)
+static bool at_times(struct maker *maker, size_t in_so_many)
 {
-    while (maker->blanks != 0 && one_in(maker->draws, maker->blanks))
-        put_string(maker->text, one_in(maker->draws, 3) ? "\n" : " ");
+    return in_so_many != 0 && one_in(maker->draws, in_so_many);
+}
+
+/* What means nothing, blanks and annotations; or no byte. */
+static void put_nothings(struct maker *maker)
+{
+    for (;;) {
+        if (at_times(maker, maker->blanks))
+            put_string(maker->text, one_in(maker->draws, 3) ? "\n" : " ");
+        else if (at_times(maker, maker->annotations))
+            add_annotation(maker->draws, maker->text);
+        else
+            return;
+    }
 }
 
 /* A token with one of the list's names in it that is no use of it: no `%`, one too many, another byte before it, a byte more or
-   a byte less. It may be another word's by chance. Names that leave no room for this are replaced. */
+   a byte less. It may be another word's by chance, or an annotation. Names that leave no room for this are replaced. */
 static void put_almost_use(struct maker *maker)
 {
-    static const char *const before[] = {"{", "{%%", "{ %", "{&", "{%x", "{% "};
+    static const char *const before[] = {"{", "{%%", "{ %", "{&", "{&%", "{%x", "{% "};
     struct text *text = maker->text;
     struct name name = name_of("scan");
     if (maker->list->words > 0)
@@ -212,7 +228,7 @@ static void put_almost_use(struct maker *maker)
 static void put_unlisted(struct maker *maker)
 {
     static const char *const unlisted[] = {
-        "{x}", "{%}", "{%unlisted}", "{%%%%}", "{ }", "{x%a}", "{[]d}", "{%\xc3\xa9t\xc3\xa9}",
+        "{x}", "{%}", "{%unlisted}", "{%%%%}", "{ }", "{x%a}", "{[]d}", "{%\xc3\xa9t\xc3\xa9}", "{x&}", "{ &x}", "{%&unlisted}",
         "{%1234567890123456789012345678901234567890123456789012345678901}",
         "{01234567890123456789012345678901234567890123456789012345678901}",
     };
@@ -246,7 +262,7 @@ static void put_items(struct maker *maker, size_t items)
     while (items > 0) {
         size_t inside = below(maker->draws, items);
         items--;
-        put_blanks(maker);
+        put_nothings(maker);
         switch (below(maker->draws, 10)) {
         case 0: case 1:
             put_block(maker, inside);
@@ -262,23 +278,31 @@ static void put_items(struct maker *maker, size_t items)
             put_string(maker->text, one_of(maker->draws, operators, COUNT(operators)));
         }
     }
-    put_blanks(maker);
+    put_nothings(maker);
 }
 
 static struct maker maker_for(struct draws *draws, const struct word_list *list, size_t usable, struct text *text)
 {
     text->length = 0;
-    return (struct maker){draws, text, list, usable, one_in(draws, 3) ? 2 + below(draws, 6) : 0};
+    struct maker maker = {.draws = draws, .text = text, .list = list, .usable = usable};
+    if (one_in(draws, 3))
+        maker.blanks = 2 + below(draws, 6);
+    if (one_in(draws, 3))
+        maker.annotations = 2 + below(draws, 6);
+    return maker;
 }
 
-/* So many cells: nested, in a row, tokens of 64 bytes, or uses of a word, which may be linked to any number of cells. */
+/* So many cells: nested, in a row, tokens of 64 bytes, or uses of a word, which may be linked to any number of cells; what means
+   nothing may stand before and behind. */
 static void put_cells(struct maker *maker, size_t cells)
 {
     static const char token[] = "{01234567890123456789012345678901234567890123456789012345678901}";
     struct text *text = maker->text;
+    put_nothings(maker);
     switch (below(maker->draws, maker->usable > 0 ? 5 : 3)) {
     case 0:
         put_times(text, "[", cells);
+        put_nothings(maker);
         put_times(text, "]", cells);
         break;
     case 1:
@@ -291,6 +315,7 @@ static void put_cells(struct maker *maker, size_t cells)
         for (const struct name *used = &maker->list->names[below(maker->draws, maker->usable)]; cells > 0; cells--)
             put_use(text, used);
     }
+    put_nothings(maker);
 }
 
 /* A text that CHECK refuses: with 17 for its 4,097 cells, rarely with 11, or for a fault among a few items. A token at one of its
@@ -300,14 +325,15 @@ static void put_bad_text(struct maker *maker)
     static const char *const faulty[] = {
         "x", "#", "}", "A", "\x80", "\t", "{", "{}", "{x", "{\n}", "{%", "{%{}", "{\xff}", "{%\xc3}", "{%\xef\xbf\xbd}",
         "{a{b}", "{012345678901234567890123456789012345678901234567890123456789012}", "]", "[]]", "[{x}]]", "][", "[", "[[]",
-        "[{]}",
+        "[{]}", "&", "{&", "{&{}", "{&\n}", "{&\xff}", "{&%\xef\xbf\xbd}", "{&jit", "{&jit}}",
+        "{&12345678901234567890123456789012345678901234567890123456789012}",
     };
     if (one_in(maker->draws, 40)) {
         put_cells(maker, CELLS_AT_MOST + 1);
         return;
     }
     if (one_in(maker->draws, 300)) {
-        put_times(maker->text, one_in(maker->draws, 2) ? " " : "a", TEXT_ROOM);
+        put_times(maker->text, one_in(maker->draws, 2) ? " " : one_in(maker->draws, 2) ? "a" : "{&}", TEXT_ROOM);
         return;
     }
     put_items(maker, below(maker->draws, 4));
@@ -321,7 +347,7 @@ static void put_bad_text(struct maker *maker)
 /* One byte of a text becomes another, or goes. */
 static void damage_text(struct draws *draws, struct text *text)
 {
-    static const char usual[] = "abcd[]{}% \nx";
+    static const char usual[] = "abcd[]{}%& \nx";
     if (text->length == 0)
         return;
     size_t at = below(draws, text->length);
@@ -390,14 +416,22 @@ static void put_wrong_uses(struct maker *maker, size_t rank, enum flaw flaw)
     }
 }
 
-/* Empty, blank, of the other generator, of as many cells as there may be, or of a few items. */
+static void put_annotations(struct maker *maker)
+{
+    for (size_t left = 1 + below(maker->draws, 3); left > 0; left--)
+        add_annotation(maker->draws, maker->text);
+}
+
+/* Empty, blank, of annotations alone, of the other generator, of as many cells as there may be, or of a few items. */
 static void put_good_text(struct maker *maker)
 {
     size_t kind = below(maker->draws, 400);
-    if (kind < 60)
+    if (kind < 40)
         return;
-    if (kind < 80)
+    if (kind < 55)
         put_string(maker->text, one_in(maker->draws, 2) ? " " : "\n \n");
+    else if (kind < 80)
+        put_annotations(maker);
     else if (kind < 84)
         make_text(maker->draws, maker->text);
     else if (kind < 86)
@@ -496,7 +530,9 @@ size_t use_last_word(const struct word_list *list, uint8_t *text)
 /* Lists that would grow past every bound if they were written out, about to the limit, or not at all. */
 static void drawn_growing_list(struct draws *draws, struct word_list *list)
 {
-    static const char *const firsts[] = {"", "", " \n", "a", "a", "ab", "[]", "{x}", "{%}", "{%unlisted}", "[[{y}]c]"};
+    static const char *const firsts[] = {"", "{&}", " \n", "a", "a", "ab", "[]", "{x}", "{%}", "{%unlisted}", "[[{y}]c]",
+                                         "{&jit}a", "[{&}]{&}", "{x&}"};
+    static const char *const behinds[] = {"", "d", "{&}"};
     const char *first = one_of(draws, firsts, COUNT(firsts));
     size_t words = one_in(draws, 4) ? WORDS_AT_MOST - below(draws, 2) : 1 + below(draws, 20);
     switch (below(draws, 4)) {
@@ -507,7 +543,7 @@ static void drawn_growing_list(struct draws *draws, struct word_list *list)
         growing_list(list, words, 1, below(draws, 20), first, "");
         break;
     default:
-        growing_list(list, words, below(draws, 4), below(draws, 3), first, one_in(draws, 2) ? "" : "d");
+        growing_list(list, words, below(draws, 4), below(draws, 3), first, one_of(draws, behinds, COUNT(behinds)));
     }
 }
 
@@ -595,7 +631,7 @@ static void damage_list(struct draws *draws, struct word_list *list)
 /* Bytes at random, most of them such as short words are made of. */
 static void scribble(struct draws *draws, struct word_list *list)
 {
-    static const uint8_t usual[] = {0, 0, 0, 0, 0, 0, 0, 1, 1, 2, 3, 4, 'p', '{', '%', '}'};
+    static const uint8_t usual[] = {0, 0, 0, 0, 0, 0, 0, 1, 1, 2, 3, 4, 'p', '{', '%', '&', '}'};
     list->words = list->length = list->counted = 0;
     for (size_t left = below(draws, 30); left > 0; left--) {
         uint8_t byte = one_in(draws, 30) ? (uint8_t)below(draws, 256) : usual[below(draws, COUNT(usual))];
@@ -634,7 +670,8 @@ static size_t cells_of(const struct word_list *list, const struct name *name)
 }
 
 /* Uses of one word, and then other items up to a number of cells about the limit. A word of no cells is used about as often as
-   there may be cells, so that the text's own are too many and the linked plan's are not. */
+   there may be cells, so that the text's own are too many and the linked plan's are not. An annotation that was counted would be
+   one too many. */
 static void put_edge(struct maker *maker)
 {
     struct draws *draws = maker->draws;
@@ -657,8 +694,9 @@ static void put_edge(struct maker *maker)
 /* A text of the longest length, or one byte longer. */
 static void put_longest(struct maker *maker)
 {
+    static const char *const filling[] = {"a", " ", " ", "{&}"};
     put_items(maker, below(maker->draws, 5));
-    put_times(maker->text, one_in(maker->draws, 3) ? "a" : " ", TEXT_ROOM - maker->text->length);
+    put_times(maker->text, one_of(maker->draws, filling, COUNT(filling)), TEXT_ROOM - maker->text->length);
     maker->text->length -= below(maker->draws, 2);
 }
 

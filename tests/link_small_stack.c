@@ -25,6 +25,7 @@ static const struct longest cases[] = {
     {WORDS, 2, 0, "a", 0, TURNIP_OVERFULL, 0, 0, 0},
     {WORDS, 2, 0, "", 0, TURNIP_READ, 0, 0, 0},
     {WORDS, 2, 0, "", 3, TURNIP_READ, 3, 6, 0},
+    {WORDS, 2, 0, "{&}", 3, TURNIP_READ, 3, 6, 0},
     {13, 2, 0, "a", 0, TURNIP_READ, CELLS, CELLS, 0},
     {13, 2, 0, "a", 1, TURNIP_OVERFULL, 0, 0, 0},
     {14, 2, 0, "a", 0, TURNIP_OVERFULL, 0, 0, 0},

@@ -134,30 +134,43 @@ static void take_words(struct bytes bytes, struct list *list)
 
 /* ---- Texts to plans. ---- */
 
+/* What stands at a byte of a text: a token whole, else that byte. */
+static struct bytes piece_at(struct bytes text, size_t at)
+{
+    const uint8_t *first = text.start + at, *last = first;
+    if (*first == '{')
+        last = memchr(first, '}', text.length - at);
+    return (struct bytes){first, (size_t)(last - first) + 1};
+}
+
+/* "A token whose text starts with `&` (also `{&}`) ... means nothing, like SP", so that "a word's text or a plan text with
+   annotations links as without them". */
+static bool means_nothing(struct bytes piece)
+{
+    return *piece.start == ' ' || *piece.start == '\n' || (*piece.start == '{' && piece.start[1] == '&');
+}
+
 /* The plan of a text that has none of 11, 13, 15, 16 and 21 to 25 about it, so each { opens a token, and each ] closes a block.
    Items may be any number at any depth, so it keeps its own stack of open blocks. */
 static struct plan plan_of(struct list *list, struct bytes text)
 {
     struct plan plan = {0};
     struct sequence open = {0};
-    for (size_t at = 0; at < text.length; at++) {
-        const uint8_t *byte = text.start + at;
-        if (*byte == ' ' || *byte == '\n')
-            continue;
-        if (*byte == ']') {
+    struct bytes piece;
+    for (size_t at = 0; at < text.length; at += piece.length) {
+        piece = piece_at(text, at);
+        char first = (char)*piece.start;
+        if (first == ']')
             open.count--;
+        if (first == ']' || means_nothing(piece))
             continue;
-        }
-        struct item *item = new_item(list, (char)*byte);
+        struct item *item = new_item(list, first);
         push(open.count == 0 ? &plan.outer : &open.items[open.count - 1]->inside, item);
         push(&plan.all, item);
-        if (*byte == '[')
+        if (first == '[')
             push(&open, item);
-        if (*byte == '{') {
-            const uint8_t *end = memchr(byte, '}', text.length - at);
-            item->token = (struct bytes){byte, (size_t)(end - byte) + 1};
-            at += item->token.length - 1;
-        }
+        if (first == '{')
+            item->token = piece;
     }
     free(open.items);
     return plan;
@@ -183,17 +196,19 @@ static bool same(struct bytes one, struct bytes other)
     return one.length == other.length && memcmp(one.start, other.start, one.length) == 0;
 }
 
-/* "A name is not empty and makes an allowed token, `{%` name `}`". A name with a } in it makes two tokens, or none. */
+/* "A name is not empty and makes an allowed token, `{%` name `}`". A name with a } in it makes two tokens, or none. The second
+   may be an annotation, which is no cell, but not printed: so all bytes must be. */
 static bool is_name(struct bytes name)
 {
     uint8_t token[TOKEN_LIMIT] = "{%";
-    if (name.length == 0 || name.length + 3 > TOKEN_LIMIT)
+    size_t length = name.length + 3;
+    if (name.length == 0 || length > TOKEN_LIMIT)
         return false;
     memcpy(token + 2, name.start, name.length);
     token[name.length + 2] = '}';
-    struct twin_result read = twin_read(token, name.length + 3);
+    struct twin_result read = twin_read(token, length);
     twin_free(&read);
-    return read.number == READ && read.cells == 1;
+    return read.number == READ && read.cells == 1 && read.length == length;
 }
 
 /* "a name is what follows the `%`": whether this item is a token with that name. */

@@ -178,7 +178,8 @@ static bool judge_text(const uint8_t *text, size_t length, bool *ready)
     judged.ready = false;
     for (size_t at = 0; at < length;) {
         size_t bytes = text[at] == '{' ? token_bytes(text + at, length - at) : 1;
-        if (bytes == 0 || !judge_byte(&judged, text[at]))
+        bool annotation = bytes > 1 && text[at + 1] == '&';
+        if (bytes == 0 || annotation || !judge_byte(&judged, text[at]))
             return false;
         at += bytes;
     }
@@ -370,13 +371,24 @@ static void agree(const struct input *input, size_t length, size_t list_length)
     }
 }
 
-/* The whole roll, which must read as the entries that were put; then cut, with too short a list, and with a text spoilt. */
+/* The roll with another byte at a place. */
+static void agree_spoilt(struct input *input, size_t at, uint8_t byte)
+{
+    uint8_t kept = input->bytes[at];
+
+    input->bytes[at] = byte;
+    agree(input, input->length, MOST_ENTRIES);
+    input->bytes[at] = kept;
+}
+
+/* The whole roll, which must read as the entries that were put; then cut, with too short a list, and with a text spoilt, also so
+   that its next token becomes an annotation. */
 static void agree_around(struct input *input)
 {
     static uint32_t list[MOST_ENTRIES];
     uint32_t answer[5];
     size_t half = input->length / 2;
-    uint8_t byte = input->bytes[half];
+    const uint8_t *token = memchr(input->bytes + half, '{', input->length - half);
 
     readers[0].read(input->bytes, input->length, list, MOST_ENTRIES, answer);
     if (answer[0] != ROLL_READ || answer[1] != input->entries || answer[4] != input->length) {
@@ -387,9 +399,8 @@ static void agree_around(struct input *input)
     agree(input, input->length, input->entries - 1);
     agree(input, input->length - 1, MOST_ENTRIES);
     agree(input, half, MOST_ENTRIES);
-    input->bytes[half] = ' ';
-    agree(input, input->length, MOST_ENTRIES);
-    input->bytes[half] = byte;
+    agree_spoilt(input, half, ' ');
+    agree_spoilt(input, (size_t)(token - input->bytes) + 1, '&');
 }
 
 /* ---- Timing. ---- */

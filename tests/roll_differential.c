@@ -5,7 +5,8 @@
    A case is one roll. It is read, one entry of it is asked for, a FILED is added to it, and a DONE. Library and twin are called
    on copies of the same roll or buffer, list and tally, and compared: the five numbers, every byte, every number, and a few of
    each behind what was lent. The first few differences are told in full. Then come the longest rolls (roll_longest.h). Status 0:
-   there were no differences, and of 100,000 cases or more each call has given every answer that it can give. */
+   there were no differences, and of 100,000 cases or more each call has given every answer that it can give, and texts and
+   entries with an annotation were refused. */
 #include <inttypes.h>
 #include <stdbool.h>
 #include <stdio.h>
@@ -16,6 +17,7 @@
 #include "roll_generator.h"
 #include "roll_longest.h"
 #include "roll_twin.h"
+#include "twin.h"
 
 /* What is lent is followed by this many elements that no call may touch. */
 enum { GUARD = 16 };
@@ -58,6 +60,7 @@ static struct roll roll;
 static struct text text;
 static struct side library, twin;
 static unsigned long seen[CALLS][NUMBERS];
+static unsigned long annotated_texts, annotated_entries; /* that were refused, though CHECK accepts the text */
 static uint64_t differences;
 
 /* ---- Telling. ---- */
@@ -245,6 +248,28 @@ static void draw_adding(struct draws *draws, struct asked *asked, enum call call
     make_tally(draws, told + 2, asked->tally);
 }
 
+static bool accepted_with_annotation(const uint8_t *bytes, size_t length)
+{
+    struct twin_result read = twin_read(bytes, length);
+    twin_free(&read);
+    return read.number == TURNIP_READ && opens_annotation(bytes, length);
+}
+
+/* The roll has been read: where an entry of it is at fault that has a text, this is looked at. */
+static void count_annotated_entry(void)
+{
+    uint32_t entry[5];
+    if (twin.answer[0] != ROLL_BADROLL)
+        return;
+    twin_roll_entry(roll.bytes, roll.length, twin.answer[4], entry);
+    annotated_entries += accepted_with_annotation(roll.bytes + entry[TURNIP_ENTRY_TEXT], entry[TURNIP_ENTRY_TEXT_BYTES]);
+}
+
+static void count_annotated_text(void)
+{
+    annotated_texts += twin.answer[0] == ROLL_BADTEXT && accepted_with_annotation(text.bytes, text.length);
+}
+
 static void compare_case(uint64_t seed, uint64_t number)
 {
     struct draws draws = draws_for(seed, number);
@@ -253,9 +278,11 @@ static void compare_case(uint64_t seed, uint64_t number)
     make_roll(&draws, &roll);
     look(roll.length, told);
     compare_reading(&draws, &asked, told[1]);
+    count_annotated_entry();
     compare_entry(&draws, &asked);
     draw_adding(&draws, &asked, ADDING_FILED);
     compare_filed(&asked);
+    count_annotated_text();
     draw_adding(&draws, &asked, ADDING_DONE);
     compare_done(&asked);
 }
@@ -271,12 +298,13 @@ static void tell_seen(void)
                 printf("  %d: %lu", number, seen[call][number]);
         printf("\n");
     }
+    printf("refused, with an annotation: %lu texts, %lu entries\n", annotated_texts, annotated_entries);
 }
 
-/* Whether every call gave every answer that it can give; those that it did not are told. */
+/* Whether every call gave every answer that it can give, and annotations came up; answers that it did not give are told. */
 static bool all_came_up(void)
 {
-    bool all = true;
+    bool all = annotated_texts > 0 && annotated_entries > 0;
     for (int call = 0; call < CALLS; call++) {
         for (const uint32_t *number = possible[call]; *number != 0; number++) {
             if (seen[call][*number] == 0) {

@@ -24,12 +24,14 @@ struct piece {
 
 /* ---- Texts. ---- */
 
-/* What the rules make of a text. The first two are printed texts of accepted plans. */
-enum text_kind { FINISHED, UNFINISHED, BLANKED, FAULTY };
+/* What the rules make of a text. The first two are printed texts of accepted plans; the next two would be, but for blanks, and
+   but for annotations. */
+enum text_kind { FINISHED, UNFINISHED, BLANKED, ANNOTATED, FAULTY };
 
 enum { CHECK_READ = 3, RUN_DONE = 0, RANDOM_TEXT_AT_MOST = 600, TRIES = 6 };
 
-/* No operator has its blocks just before it: too few of them, a token between, or letters in a token. */
+/* No operator has its blocks just before it: too few of them, a token between, or letters in a token. A `&` in a token that does
+   not start its text makes no annotation. */
 static const struct piece finished_texts[] = {
     PIECE(""), PIECE("{x}"), PIECE("[]"), PIECE("d"), PIECE("abcd"), PIECE("[{x}]{y}d"), PIECE("[]a"), PIECE("[]b"),
     PIECE("[{x}][{y}]{z}a"), PIECE("[][]{x}[]b"), PIECE("[[{x}]{y}]"), PIECE("[[]a]"), PIECE("[d[c[b[a]]]]"), PIECE("a[]"),
@@ -37,6 +39,7 @@ static const struct piece finished_texts[] = {
     PIECE("{\xc3\xa9}[{\xe2\x82\xac}]"), PIECE("[{p}]{q}c[[{r}]{s}d[]a]"), PIECE("{y}[{x}]"), PIECE("[[{p}]{q}][{p}]{r}"),
     PIECE("[{move arm}{to rest}][{scan left}{scan right}]{settle}[{log}]"),
     PIECE("{01234567890123456789012345678901234567890123456789012345678901}"),
+    PIECE("{x&}"), PIECE("[{x}]{y&jit}d"), PIECE("{%&x}"), PIECE("[{ &}]"),
 };
 
 /* An operator is ready: at the end, in the middle, only inside a block, only inside two, only behind two blocks. */
@@ -46,7 +49,7 @@ static const struct piece unfinished_texts[] = {
     PIECE("[[[[{x}]c]]{y}]"), PIECE("{x}[{y}[][]b]"), PIECE("[{x}][{y}][[]d]"), PIECE("[][]{z}[[[]c]]"), PIECE("[a[][]a]{x}"),
     PIECE("[[{x}]d][]"), PIECE("[[][]a]a"), PIECE("[{x}]{y}[{z}]{w}[[{v}]d]{u}"), PIECE("[{]}]d"),
     PIECE("[c[][]baad]c[][]baad"), PIECE("[{move arm}{to rest}][{scan left}{scan right}[{log}]c]{settle}"),
-    PIECE("[[[]a][]b][]{x}"), PIECE("[[]a][]b"),
+    PIECE("[[[]a][]b][]{x}"), PIECE("[[]a][]b"), PIECE("[{x&}]d"), PIECE("[{%&x}]{x&y}[[]c]"),
 };
 
 static const struct piece blanked_texts[] = {
@@ -54,11 +57,22 @@ static const struct piece blanked_texts[] = {
     PIECE("[[]d]\n"), PIECE("{a b} {c}"), PIECE("[{move arm} {to rest}] [{scan left} {scan right}] {settle} [{log}]"),
 };
 
+/* Annotations alone, first, last, in a block, between blocks and operator, beside a token and a blank, and as long as may be. */
+static const struct piece annotated_texts[] = {
+    PIECE("{&}"), PIECE("{&jit}"), PIECE("{& }{&}"), PIECE("{&}{x}"), PIECE("{x}{&}"), PIECE("[{&}]"), PIECE("[]{&jit}"),
+    PIECE("{&}[]d"), PIECE("[]d{&}"), PIECE("[]{&}d"), PIECE("[{x}][{y}]{&jit}a"), PIECE("[{x}]{&jit}[{y}]a"),
+    PIECE("[[]{&}d]"), PIECE("[[{&]}]{&[]d}d]"), PIECE("[{x}]{&}{y}d"), PIECE("{&\xc3\xa9}[{\xe2\x82\xac}]"), PIECE("{&%p}"),
+    PIECE("{&} {x}"), PIECE("{x}{&1234567890123456789012345678901234567890123456789012345678901}"),
+    PIECE("[{move arm}{to rest}][{scan left}{scan right}]{settle}{&log}"),
+};
+
 static const struct piece faulty_texts[] = {
     PIECE("x"), PIECE("]"), PIECE("["), PIECE("[]]"), PIECE("[[]"), PIECE("{}"), PIECE("{"), PIECE("}"), PIECE("{x"),
     PIECE("{x}}"), PIECE("{a{b}"), PIECE("{\xff}"), PIECE("{\xc3}"), PIECE("{\xef\xbf\xbd}"), PIECE("{\n}"), PIECE("{\x7f}"),
     PIECE("\0"), PIECE("[]d\0"), PIECE("[]d#"), PIECE("a\tb"), PIECE("[{x}]e"), PIECE("]["), PIECE("[]d]"), PIECE("\r"),
-    PIECE("{012345678901234567890123456789012345678901234567890123456789012}"),
+    PIECE("{012345678901234567890123456789012345678901234567890123456789012}"), PIECE("&"), PIECE("{&"), PIECE("{&{}"),
+    PIECE("{&\xff}"), PIECE("{&\n}"), PIECE("{x}{&}&"),
+    PIECE("{&12345678901234567890123456789012345678901234567890123456789012}"),
 };
 
 static const struct {
@@ -68,6 +82,7 @@ static const struct {
     [FINISHED] = {finished_texts, COUNT(finished_texts)},
     [UNFINISHED] = {unfinished_texts, COUNT(unfinished_texts)},
     [BLANKED] = {blanked_texts, COUNT(blanked_texts)},
+    [ANNOTATED] = {annotated_texts, COUNT(annotated_texts)},
     [FAULTY] = {faulty_texts, COUNT(faulty_texts)},
 };
 
@@ -108,7 +123,7 @@ static void draw_large_text(struct draws *draws, enum text_kind kind, struct tex
         return;
     }
     append_times(text, tokens ? token : "[", cells);
-    append_times(text, kind == UNFINISHED ? "[]d" : kind == BLANKED ? " " : "", 1);
+    append_times(text, kind == UNFINISHED ? "[]d" : kind == BLANKED ? " " : kind == ANNOTATED ? "{&}" : "", 1);
     append_times(text, "]", tokens ? 0 : cells);
 }
 
@@ -118,7 +133,7 @@ static enum text_kind kind_of(const struct text *text)
     struct twin_result run = twin_run(text->bytes, text->length, 0, 4 * CELLS_AT_MOST);
     enum text_kind kind = run.number == RUN_DONE ? FINISHED : UNFINISHED;
     if (read.length != text->length)
-        kind = BLANKED;
+        kind = opens_annotation(text->bytes, text->length) ? ANNOTATED : BLANKED;
     if (read.number != CHECK_READ)
         kind = FAULTY;
     twin_free(&read);
@@ -163,7 +178,8 @@ static void draw_text(struct draws *draws, enum text_kind kind, struct text *tex
 
 void make_filed_text(struct draws *draws, struct text *text)
 {
-    static const enum text_kind kinds[] = {FINISHED, FINISHED, FINISHED, UNFINISHED, UNFINISHED, UNFINISHED, BLANKED, FAULTY};
+    static const enum text_kind kinds[] = {FINISHED,   FINISHED,   FINISHED, FINISHED,  UNFINISHED, UNFINISHED,
+                                           UNFINISHED, UNFINISHED, BLANKED,  ANNOTATED, ANNOTATED,  FAULTY};
     draw_text(draws, kinds[below(draws, COUNT(kinds))], text);
 }
 
@@ -406,7 +422,7 @@ static void put_untimely(struct draws *draws, struct roll *roll)
 static void put_bad_entry(struct draws *draws, struct roll *roll)
 {
     struct job job;
-    switch (below(draws, 8)) {
+    switch (below(draws, 10)) {
     case 0: case 1:
         put_odd_sections(draws, roll);
         break;
@@ -423,6 +439,9 @@ static void put_bad_entry(struct draws *draws, struct roll *roll)
         break;
     case 5:
         file_cast_job(draws, roll, open_job(draws, roll), FAULTY);
+        break;
+    case 6: case 7:
+        file_cast_job(draws, roll, open_job(draws, roll), ANNOTATED);
         break;
     default:
         put_untimely(draws, roll);

@@ -128,7 +128,8 @@ static bool same_job(struct bytes one, struct bytes other)
     return one.length == other.length && memcmp(one.start, other.start, one.length) == 0;
 }
 
-/* "byte for byte, the printed text of a plan that CHECK accepts" */
+/* "byte for byte, the printed text of a plan that CHECK accepts": so "a roll's FILED text with an annotation is no printed text:
+   adding it is BADTEXT, and a whole entry that holds one is BADROLL", as it is longer than what is printed. */
 static bool is_printed_text(struct bytes text)
 {
     struct twin_result read = twin_read(text.start, text.length);

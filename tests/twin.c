@@ -224,8 +224,16 @@ static void add(struct reader *reader, struct item *item)
     push(&reader->all, item);
 }
 
+/* "A token whose text starts with `&` (also `{&}`) is still checked as a token, with every fault of one, and then means nothing,
+   like SP: no item, no cell, no place in the plan, not printed, and it does not stand between a block and an operator." This is
+   asked of an allowed token, which has a text. */
+static bool is_annotation(const struct opened *token)
+{
+    return token->bytes[1] == '&';
+}
+
 /* "A token runs from { to the first } after it": how many bytes it has. Of one that is not allowed the fault is noted, and "the
-   place reported is the fault's own". */
+   place reported is the fault's own". An annotation is passed over. */
 static size_t read_token(struct reader *reader, const uint8_t *text, size_t at, size_t text_length)
 {
     struct opened token = open_token(text + at, text_length - at);
@@ -233,7 +241,7 @@ static size_t read_token(struct reader *reader, const uint8_t *text, size_t at, 
     uint32_t fault = first_fault(&token, &fault_at);
     if (fault != 0)
         refuse(reader, fault, at + fault_at);
-    else
+    else if (!is_annotation(&token))
         add(reader, new_token(token.bytes, length, (uint32_t)at));
     return length;
 }
@@ -268,7 +276,8 @@ static size_t read_one(struct reader *reader, const uint8_t *text, size_t at, si
 }
 
 /* "Then 13, 14 and 15: whichever stands first from the left ... Then 16, 17". What was 14 is now 21 to 25, and "whose fault comes
-   first against 13 and 15 stays by the place of the opening brace". */
+   first against 13 and 15 stays by the place of the opening brace". "OVERFULL's place is that of the first item past the limit;
+   an annotation is no item". */
 static void read_all(struct reader *reader, const uint8_t *text, size_t text_length, size_t most_cells)
 {
     for (size_t at = 0; at < text_length && reader->fault == 0;)

@@ -1,16 +1,18 @@
 #!/usr/bin/env python3
-"""Turns the cases of base.txt and faults.txt into the standard input of crates/vectors.
+"""Turns the cases of base.txt, faults.txt and annotations.txt into the standard input of crates/vectors.
 
-    python3 tests/vectors-to-stdin.py BASE.TXT FAULTS.TXT > crates/vectors/stdin
+    python3 tests/vectors-to-stdin.py BASE.TXT FAULTS.TXT ANNOTATIONS.TXT > crates/vectors/stdin
 
-Both have a case a line, each kind with fields of its own, and RULES telling which requests the answer supposes:
+Each has a case a line, each kind with fields of its own, and RULES telling which requests the answer supposes:
 
     check RULES TEXT = NUMBER STEPS CELLS LENGTH PLACE
     tidy RULES TEXT OUTLEN = NUMBER STEPS CELLS LENGTH PLACE OUT
     run RULES TEXT QUOTA MEMLEN OUTLEN = NUMBER STEPS CELLS LENGTH PLACE OUT
 
 base.txt supposes none (`-`): its answers with 14 are changed to what they are since request 1 (name_faults.py). faults.txt
-supposes that one (`s`), and is taken as it stands. Lines of other kinds are left out.
+supposes that one (`s`), and annotations.txt request 2 too (`sa`), so it is taken as it stands. Of the older two, lines whose answer
+supposes that an annotation is an item are left out (annotations.py): 78 of base.txt (8 check, 7 tidy, 63 run), none of
+faults.txt; annotations.txt has 804 lines for such texts. Lines of other kinds are left out.
 
 What is written has a case a line too, in the same order, and the same fields for every kind, so that one short proved
 reader serves all of them:
@@ -25,11 +27,13 @@ So `5b*3+5d` of base.txt is `2 3 5b 1 5d`, and `5b5d*2` is `1 4 5b5d`.
 
 import sys
 
+from annotations import supposes_item
 from base_form import runs
 from name_faults import renumbered
 
 KINDS = {"check": 1, "tidy": 2, "run": 3}
 BEFORE = "-"  # the rules of the time before request 1
+NOW = "sa"  # those since request 2
 
 
 def bytes_form(field):
@@ -49,13 +53,15 @@ def line_form(kind, given, answer):
 
 
 def cases(name):
-    """The cases of a file: the kind of each, what is given, and the answer as it is now."""
+    """The cases of a file whose answers are known: the kind of each, what is given, and the answer as it is now."""
     with open(name, encoding="ascii") as lines:
         for line in lines:
             kind, rules, *fields = line.split()
-            if kind in KINDS:
-                middle = fields.index("=")
-                given, answer = fields[:middle], fields[middle + 1 :]
+            if kind not in KINDS:
+                continue
+            middle = fields.index("=")
+            given, answer = fields[:middle], fields[middle + 1 :]
+            if rules == NOW or not supposes_item(given, answer):
                 yield kind, given, renumbered(given, answer) if rules == BEFORE else answer
 
 

@@ -15,8 +15,8 @@ use Rattle.plan.specs.declared.Operator.the-variants.{D}
 use Rattle.plan.specs.declared.Refusal.the-variants.{OutShort, Text}
 use Rattle.plan.specs.declared.TextFault.the-variants.{Unclosed}
 use Rattle.plan.specs.Plan.{Plan, WithoutC, end, operator, token, block, _then_, bare, cells, labels, letter, print, relabel}
-use Rattle.plan.specs.Token.{follows, scalar, value, well-formed, all-permitted, allowed, before-brace, character, if-allowed, may-hold, permits, token-text}
-use Rattle.plan.specs.Reading.{class, fit, go-on, move, past-token, place, read, read-from}
+use Rattle.plan.specs.Token.{annotation, follows, scalar, value, well-formed, all-permitted, allowed, before-brace, character, if-allowed, may-hold, permits, token-text}
+use Rattle.plan.specs.Reading.{HoldsAnnotation, OUTSIDE, class, enter, fit, go-on, leave, mark, move, past-token, place, read, read-from, without-marks}
 use Rattle.plan.specs.Options.{_else_, under}
 use Rattle.plan.specs.Rewriting.{after-two, first-block, inner, next, outer}
 use Rattle.plan.specs.Running.{ask, one-more, run-plan, turn}
@@ -63,7 +63,7 @@ pub calls : Runs p6 2 (memory 7) out (Ran Done 2 4 10) (zeroed 7) (ended ++ repl
     × Runs p6 2 (memory 7) [] (Refused (OutShort 10)) (zeroed 7) []
     × (slots standard 7 1 (1 ∷ []) p6 ≡ GIVES (Ran Done 2 4 10) ended)
     × Tidies (bytes "[") out (Refused (Text (Unclosed (place 1)))) out × Tidies p6 [] (Refused (OutShort 14)) []
-unfolding slots next-slot after plus-steps cleared run runs run-read tidy reads as-read as-run accept write read read-from go-on move past-token fit class token-text if-allowed before-brace allowed all-permitted permits may-hold character value follows scalar well-formed cells labels print letter _then_ run-plan turn ask one-more next outer inner first-block after-two under _else_ bytes
+unfolding slots next-slot after plus-steps cleared run runs run-read tidy reads as-read as-run accept write read read-from go-on move past-token mark annotation fit class token-text if-allowed before-brace allowed all-permitted permits may-hold character value follows scalar well-formed cells labels print letter _then_ run-plan turn ask one-more next outer inner first-block after-two under _else_ bytes
 calls = (
   record { answer = refl; output = refl; zeroed = refl },
   record { answer = refl; output = refl; zeroed = refl },
@@ -75,6 +75,15 @@ calls = (
   record { answer = refl; output = refl },
   record { answer = refl; output = refl },
 )
+
+-- `HoldsAnnotation`, of a text that runs, and that text without its marks
+abbrev annotated : List ℕ
+annotated = bytes "[{x}][{y}]{&jit}a"
+
+pub an-annotated-run : HoldsAnnotation annotated × Runs annotated 1 (memory 7) out (Ran Done 1 3 8) (zeroed 7) (bytes "{y}[{x}]" ++ replicate 8 7)
+    × (without-marks OUTSIDE annotated ≡ bytes "[{x}][{y}]a")
+unfolding calls without-marks enter leave
+an-annotated-run = ((bytes "[{x}][{y}]", bytes "jit}a", refl), record { answer = refl; output = refl; zeroed = refl }, refl)
 
 -- `Unrefused`, `Rewritten` (with `Reads` and `Leads` in it), and why a run ends: no rule applies, the next result fits, or it does not
 pub a-done-run : Unrefused (Ran Done 2 4 10) × ((q : Bare) × Rewritten 7 p6 2 q × NoRuleApplies q)
@@ -134,7 +143,7 @@ two-slots = (first (slot (calls .1) (λ e. absurd (omega arith))) (only (slot (c
 
 -- P5 is a plan without c
 pub a-plan-without-c : (p : Bare) × Reads 3 (bytes "[{x}]d") p × WithoutC p
-unfolding accept read read-from go-on move past-token fit class token-text if-allowed before-brace allowed all-permitted permits may-hold character value follows scalar well-formed cells labels under _then_ bytes relabel
+unfolding accept read read-from go-on move past-token mark annotation fit class token-text if-allowed before-brace allowed all-permitted permits may-hold character value follows scalar well-formed cells labels under _then_ bytes relabel
 a-plan-without-c =
     let placed : Plan ℕ = block 0 (token 1 (bytes "x") end) (operator 5 D end) in
     (bare placed, record { placed = placed; accepted = refl; same = refl }, (tt, (λ e. let z : _≡_ {A = ℕ} 0 1 = cc in omega arith, tt)))

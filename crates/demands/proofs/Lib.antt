@@ -1,3 +1,4 @@
+pub mod Annotations
 pub mod Answered
 pub mod Cases
 pub mod Endings

@@ -13,10 +13,11 @@ use Rattle.plan.specs.declared.Ending.{Ending}
 use Rattle.plan.specs.declared.Refusal.{Refusal}
 use Rattle.plan.specs.Plan.{Plan, bare, cells, print}
 use Rattle.plan.specs.Token.{Allowed}
-use Rattle.plan.specs.Reading.{PLAN, REFUSED, fit, read}
+use Rattle.plan.specs.Reading.{HoldsAnnotation, PLAN, REFUSED, fit, read}
 use Rattle.plan.specs.Rewriting.{next}
 use Rattle.plan.specs.Running.{Leads, Ran, RAN, run-plan}
 use Rattle.plan.specs.Services.{accept, standard}
+use Rattle.plan.proofs.Annotations.{print-no-annotation}
 use Rattle.plan.proofs.Plans.{cells-relabel, print-relabel}
 use Rattle.plan.specs.Pieces.{placed}
 use Rattle.plan.proofs.ReadBack.{bare-placed, print-bound, read-accepted}
@@ -69,7 +70,7 @@ way-fits {n} (go {p = p} {r = s} g ran) h (suc k) r within leads =
     let same : leads .0 ≡ s = some-injective (sym (leads .1) ∙ next-fits .0) in
     way-fits ran (next-fits .1) k r (omega arith) (subst (λ t. Leads k t r) same (leads .2))
 
--- A plan that came from reading and rewriting: its tokens are allowed, and it fits the cells lent.
+-- A plan that came from reading and rewriting: its tokens are names, and it fits the cells lent.
 pub record Sound (n : ℕ) (q : Bare) : Type 0 where
   of : Plan ℕ
   same : bare of ≡ q
@@ -97,6 +98,10 @@ module _ {n : ℕ} {q : Bare} (sound : Sound n q) where
   pub sound-length : length (print q) ≤ tokenLimit * cells q
   sound-length =
       omega (arith, print-bound tokenLimit (sound .of) (standard-roomy .block) (sound .fine), same-cells, ap length same-text)
+
+  -- it holds no annotation
+  pub sound-unannotated : HoldsAnnotation (print q) → ⊥
+  sound-unannotated = subst (λ t. HoldsAnnotation t → ⊥) same-text (print-no-annotation tokenLimit (sound .of) (sound .fine))
 
   -- and reads back as the same plan
   pub sound-back : Reads n (print q) q

@@ -1,3 +1,4 @@
+pub mod Passing
 pub mod Telling
 pub mod Tidying
 pub mod TokenEnd

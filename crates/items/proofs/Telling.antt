@@ -1,6 +1,7 @@
--- What the class of a byte tells of the pieces that the text shows from there on, and each answer of the walk by it.
-use Prim.Native.Nat.{ℕ, _+_, _-_, _≤_, _<_}
+-- What the class of a byte, where no mark begins, tells of the pieces that the text shows from there on, and each answer of the walk by it.
+use Prim.Native.Nat.{ℕ, _+_, _-_, _≤_}
 use mathlib.Core.Path.{_≡_, refl, ap, sym, _∙_, subst}
+use mathlib.Core.Bool.{false}
 use mathlib.Core.List.{List, [], _∷_, _++_, append-assoc}
 use native.Mathlib.Omega.{arith}
 use native.Mathlib.Numerals.{add-one}
@@ -10,8 +11,8 @@ use Rattle.kinds.specs.Limits.{textLimit, tokenLimit}
 use Rattle.kinds.specs.declared.Place.{Place}
 use Rattle.kinds.specs.declared.Token.{Token as TextToken}
 use Rattle.plan.specs.Plan.{close-brace, open-brace}
-use Rattle.plan.specs.Pieces.{Found, Piece as PlanPiece, OP, TOKEN, BEGIN, END, Shows, nothing, blank, an-operator, a-token, opens, closes, piece-print}
-use Rattle.plan.specs.Reading.{Byte, class}
+use Rattle.plan.specs.Pieces.{Found, Piece as PlanPiece, OP, TOKEN, BEGIN, END, Shows, a-mark, an-operator, a-token, opens, closes, piece-print}
+use Rattle.plan.specs.Reading.{Byte, class, mark}
 use Rattle.plan.specs.declared.Class.{Class}
 use Rattle.plan.specs.declared.Class.the-variants.{
   Operator as OPERATOR,
@@ -23,13 +24,16 @@ use Rattle.plan.specs.declared.Class.the-variants.{
 }
 use Rattle.plan.specs.declared.Operator.{Operator}
 use Rattle.plan.proofs.Classes.{class-byte}
+use Rattle.plan.proofs.Marks.{mark-told}
+use Rattle.plan.proofs.Tests.{false-is-not-true}
 use Rattle.plan.proofs.Tokens.{allowed-parts}
+use Rattle.text.specs.TokenEnds.{TokenEnds}
 use Rattle.pieces.specs.Written.{Is, is-operator, is-token, is-open, is-close, TokenAt}
 use Rattle.pieces.specs.declared.Piece.{Piece as CodePiece}
 use Rattle.pieces.specs.declared.Piece.the-variants.{Operator as an-op, Token, Open, Close}
-use Rattle.items.specs.Walk.{ShowsAhead, LabelledAt, Passed, Walked, TokenFrom, one-byte, one-token}
+use Rattle.items.specs.Walk.{LabelledAt, Passed, PieceFrom, Walked, TokenFrom, one-byte, one-token}
 use Rattle.items.specs.declared.NextPiece.{NextPiece}
-use Rattle.items.specs.declared.NextPiece.the-variants.{End, Piece as AtPiece}
+use Rattle.items.specs.declared.NextPiece.the-variants.{Piece as AtPiece}
 
 -- the first piece is x, of one byte
 abbrev FirstPiece : (at : ℕ) → PlanPiece ℕ → List ℕ → List (PlanPiece ℕ) → Type 0
@@ -42,25 +46,18 @@ ToldByClass OPEN at bs ps = FirstPiece at (BEGIN at) bs ps
 ToldByClass CLOSE at bs ps = FirstPiece at END bs ps
 ToldByClass BRACE at bs ps =
     (t : List ℕ) × (f : Found tokenLimit bs t) × (later : List (PlanPiece ℕ)) × (ps ≡ TOKEN at t ∷ later) × Shows tokenLimit (at + (length t + 2)) (f .rest) later
-ToldByClass BLANK at bs ps = Shows tokenLimit (at + 1) bs ps
+ToldByClass BLANK at bs ps = ⊥
 ToldByClass BAD at bs ps = ⊥
 
-told : {at b : ℕ} {bs : List ℕ} {ps : List (PlanPiece ℕ)} → Shows tokenLimit at (b ∷ bs) ps → ToldByClass (class b) at bs ps
-told (blank c s) = rw c s
-told (an-operator c s) = rw c (_, refl, s)
-told (a-token t c a s) = rw c (t, record { rest = _; splits = refl; fine = a }, _, refl, s)
-told (opens c s) = rw c (_, refl, s)
-told (closes c s) = rw c (_, refl, s)
+told : {at b : ℕ} {bs : List ℕ} {ps : List (PlanPiece ℕ)} → Shows tokenLimit at (b ∷ bs) ps → mark (class b) bs ≡ false → ToldByClass (class b) at bs ps
+told (a-mark {bs = bs} h s) no-mark = false-is-not-true (sym no-mark ∙ mark-told bs h)
+told (an-operator c s) no-mark = rw c (_, refl, s)
+told (a-token t c n s) no-mark = rw c (t, record { rest = _; splits = refl; fine = n .fine }, _, refl, s)
+told (opens c s) no-mark = rw c (_, refl, s)
+told (closes c s) no-mark = rw c (_, refl, s)
 
 pub byte-told : (j : CodePiece) {at : ℕ} {p : Place} → p .0 ≡ at → AtPiece j p (record { at = at + 1 }) ≡ one-byte j at
 byte-told j {at} e = ap (λ n. AtPiece j (record { 0 = n }) (record { at = at + 1 })) e
-
--- a token's end lies within the text, and within the token's limit
-pub record TokenEnds (text : List ℕ) (at fin : ℕ) : Type 0 where
-  pub inside : fin < length text
-  pub ahead : at < fin
-  pub few : fin + 1 - at ≤ tokenLimit
-  pub short : length text ≤ textLimit
 
 -- the place of the token's end, as `token_end` finds it
 pub token-ends : {text : List ℕ} {at fin : ℕ} → TokenFrom text at → ((t : List ℕ) → Found tokenLimit (drop (at + 1) text) t → fin ≡ at + 1 + length t)
@@ -84,41 +81,30 @@ token-told {at} {fin} t {p} {k} ends here there long =
     subst (λ q. AtPiece (Token k) q (record { at = fin + 1 }) ≡ one-token at t) there
     (ap (λ a. made a (k .len) (fin + 1)) (ap (λ (q : Place). q .0) there ∙ here) ∙ ap (λ l. made at l (fin + 1)) len ∙ ap (made at (length t + 2)) behind)
 
--- what the walk knows where it stands, behind what meant nothing
-pub record WalkSoFar (text : List ℕ) (from at : ℕ) : Type 0 where
-  pub short : length text ≤ textLimit
-  pub low : from ≤ at
-  pub come : List (PlanPiece ℕ)
-  pub shows : Shows tokenLimit at (drop at text) come
-  pub still : (ps : List (PlanPiece ℕ)) → Shows tokenLimit from (drop from text) ps → Shows tokenLimit at (drop at text) ps
-
-pub passing-first : {text : List ℕ} {from : ℕ} → ShowsAhead text from → WalkSoFar text from from
-passing-first a = record { short = a .short; low = omega arith; come = a .come; shows = a .shows; still = λ ps s. s }
-
-module _ {text : List ℕ} {from at : ℕ} (p : WalkSoFar text from at) (inside : at < length text) where
+module _ {text : List ℕ} {at : ℕ} (p : PieceFrom text at) where
   abbrev b : ℕ
   b = getD text at 0
 
   onward : drop at text ≡ b ∷ drop (at + 1) text
-  onward = drop-cons text at 0 inside ∙ rw add-one refl
+  onward = drop-cons text at 0 (p .inside) ∙ rw add-one refl
 
   module _ {k : Class} (e : k ≡ class b) where
     here : (c : Class) → k ≡ c → {ps : List (PlanPiece ℕ)} → Shows tokenLimit at (drop at text) ps → ToldByClass c at (drop (at + 1) text) ps
-    here c h {ps} s = subst (λ x. ToldByClass x at (drop (at + 1) text) ps) (sym e ∙ h) (told (subst (λ us. Shows tokenLimit at us ps) onward s))
+    here c h {ps} s =
+        subst (λ x. ToldByClass x at (drop (at + 1) text) ps) (sym e ∙ h) (told (subst (λ us. Shows tokenLimit at us ps) onward s) (p .no-mark))
 
     byte : (c : Class) → k ≡ c → Byte c b
     byte c h = subst (λ x. Byte x b) (sym e ∙ h) (class-byte b)
 
-    pub pass-blank : k ≡ BLANK → WalkSoFar text from (at + 1)
-    pass-blank h =
-        record { short = p .short; low = omega (arith, p .low); come = p .come; shows = here BLANK h (p .shows); still = λ ps s. here BLANK h (p .still ps s) }
+    pub pass-blank : (r : NextPiece) → k ≡ BLANK → (ps : List (PlanPiece ℕ)) → Shows tokenLimit at (drop at text) ps → Walked text at r ps
+    pass-blank r h ps s = absurd (here BLANK h s)
 
-    pub pass-bad : (r : NextPiece) → k ≡ BAD → (ps : List (PlanPiece ℕ)) → Shows tokenLimit from (drop from text) ps → Walked text from r ps
-    pass-bad r h ps s = absurd (here BAD h (p .shows))
+    pub pass-bad : (r : NextPiece) → k ≡ BAD → (ps : List (PlanPiece ℕ)) → Shows tokenLimit at (drop at text) ps → Walked text at r ps
+    pass-bad r h ps s = absurd (here BAD h s)
 
     -- a piece of one byte
     one-passed : (j : CodePiece) (x : PlanPiece ℕ) {ps : List (PlanPiece ℕ)} → Is text j x → LabelledAt at x → piece-print x ≡ b ∷ []
-        → FirstPiece at x (drop (at + 1) text) ps → Passed text from j at (at + 1) ps
+        → FirstPiece at x (drop (at + 1) text) ps → Passed text at j at (at + 1) ps
     one-passed j x is placed prints f =
         record {
           first = x;
@@ -128,27 +114,27 @@ module _ {text : List ℕ} {from at : ℕ} (p : WalkSoFar text from at) (inside 
           placed = placed;
           prints = onward ∙ ap (_++ drop (at + 1) text) (sym prints);
           shows = f .2;
-          ahead = omega (arith, p .low);
-          within = omega arith;
+          ahead = omega arith;
+          within = omega (arith, p .inside);
         }
 
     module _ (r : NextPiece) where
       pub pass-operator : (o : Operator) → k ≡ OPERATOR o → r ≡ one-byte (an-op o) at
-          → (ps : List (PlanPiece ℕ)) → Shows tokenLimit from (drop from text) ps → Walked text from r ps
+          → (ps : List (PlanPiece ℕ)) → Shows tokenLimit at (drop at text) ps → Walked text at r ps
       unfolding piece-print
       pass-operator o h is ps s =
-          rw is (one-passed (an-op o) (OP at o) is-operator refl (ap (_∷ []) (sym (byte (OPERATOR o) h))) (here (OPERATOR o) h (p .still ps s)))
+          rw is (one-passed (an-op o) (OP at o) is-operator refl (ap (_∷ []) (sym (byte (OPERATOR o) h))) (here (OPERATOR o) h s))
 
-      pub pass-open : k ≡ OPEN → r ≡ one-byte Open at → (ps : List (PlanPiece ℕ)) → Shows tokenLimit from (drop from text) ps → Walked text from r ps
+      pub pass-open : k ≡ OPEN → r ≡ one-byte Open at → (ps : List (PlanPiece ℕ)) → Shows tokenLimit at (drop at text) ps → Walked text at r ps
       unfolding piece-print
-      pass-open h is ps s = rw is (one-passed Open (BEGIN at) is-open refl (ap (_∷ []) (sym (byte OPEN h))) (here OPEN h (p .still ps s)))
+      pass-open h is ps s = rw is (one-passed Open (BEGIN at) is-open refl (ap (_∷ []) (sym (byte OPEN h))) (here OPEN h s))
 
-      pub pass-close : k ≡ CLOSE → r ≡ one-byte Close at → (ps : List (PlanPiece ℕ)) → Shows tokenLimit from (drop from text) ps → Walked text from r ps
+      pub pass-close : k ≡ CLOSE → r ≡ one-byte Close at → (ps : List (PlanPiece ℕ)) → Shows tokenLimit at (drop at text) ps → Walked text at r ps
       unfolding piece-print
-      pass-close h is ps s = rw is (one-passed Close END is-close tt (ap (_∷ []) (sym (byte CLOSE h))) (here CLOSE h (p .still ps s)))
+      pass-close h is ps s = rw is (one-passed Close END is-close tt (ap (_∷ []) (sym (byte CLOSE h))) (here CLOSE h s))
 
     pub token-from : k ≡ BRACE → TokenFrom text at
-    token-from h = let t = here BRACE h (p .shows) in record { short = p .short; inside = inside; t = t .0; found = t .1 }
+    token-from h = let t = here BRACE h (p .ahead .shows) in record { short = p .ahead .short; inside = p .inside; t = t .0; found = t .1 }
 
     -- the token that the `{` opens
     module _ (h : k ≡ BRACE) (t : List ℕ) (f : Found tokenLimit (drop (at + 1) text) t) where
@@ -171,10 +157,10 @@ module _ {text : List ℕ} {from at : ℕ} (p : WalkSoFar text from at) (inside 
       token-there = (inside-text, ap (take (length t + 2)) parts ∙ take-at whole (f .rest) (length t + 2) long)
 
     pub pass-token : (r : NextPiece) → k ≡ BRACE → ((t : List ℕ) → Found tokenLimit (drop (at + 1) text) t → r ≡ one-token at t)
-        → (ps : List (PlanPiece ℕ)) → Shows tokenLimit from (drop from text) ps → Walked text from r ps
+        → (ps : List (PlanPiece ℕ)) → Shows tokenLimit at (drop at text) ps → Walked text at r ps
     unfolding piece-print
     pass-token r h is ps s =
-        let (t, f, later, first, shows) = here BRACE h (p .still ps s) in
+        let (t, f, later, first, shows) = here BRACE h s in
         rw (is t f) record {
           first = TOKEN at t;
           later = later;
@@ -183,14 +169,6 @@ module _ {text : List ℕ} {from at : ℕ} (p : WalkSoFar text from at) (inside 
           placed = refl;
           prints = parts h t f ∙ ap (whole h t f ++_) (sym (behind h t f));
           shows = rw (behind h t f) shows;
-          ahead = omega (arith, p .low);
+          ahead = omega arith;
           within = inside-text h t f;
         }
-
-none-left : {at : ℕ} {ps : List (PlanPiece ℕ)} → Shows tokenLimit at [] ps → ps ≡ []
-none-left nothing = refl
-
--- behind the last byte
-pub pass-end : {text : List ℕ} {from at : ℕ} → WalkSoFar text from at → length text ≤ at → (ps : List (PlanPiece ℕ)) → Shows tokenLimit from (drop from text) ps
-    → Walked text from End ps
-pass-end {text} {from} {at} p past ps s = none-left (subst (λ us. Shows tokenLimit at us ps) (drop-of-length-le text past) (p .still ps s))

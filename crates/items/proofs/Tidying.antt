@@ -1,7 +1,6 @@
 -- A turn of the loop that writes a text's pieces in a row: what stands in the output and what the pieces to come print are the whole.
 use Prim.Native.Nat.{ℕ, _+_, _-_, _≤_, _<_}
 use mathlib.Core.Path.{_≡_, ap, sym, _∙_, subst}
-use mathlib.Core.Bool.{false}
 use mathlib.Core.List.{List, [], _++_, append-assoc, append-nil}
 use native.Mathlib.Omega.{arith}
 use native.Mathlib.Nat.{add-zero}
@@ -9,7 +8,7 @@ use lib.ListN.{length, length-append}
 use Rattle.kinds.specs.Limits.{tokenLimit}
 use Rattle.plan.specs.Plan.{Plan, print}
 use Rattle.plan.specs.Pieces.{Shows, in-a-row, piece-print, pieces}
-use Rattle.plan.specs.Reading.{without-blanks}
+use Rattle.plan.specs.Reading.{OUTSIDE, without-marks}
 use Rattle.plan.proofs.Pieces.{print-pieces, shows-row}
 use Rattle.pieces.specs.Written.{piece-bytes, piece-length, put-at, InText}
 use Rattle.pieces.specs.declared.Piece.{Piece as CodePiece}
@@ -21,8 +20,8 @@ use Rattle.items.specs.declared.NextPiece.the-variants.{End}
 pub record Tidying (text out₀ : List ℕ) (from : ℕ) (out : List ℕ) (at put : ℕ) : Type 0 where
   pub ahead : ShowsAhead text at
   pub gone : List ℕ
-  pub whole : without-blanks false text ≡ gone ++ in-a-row (ahead .come)
-  pub room : from + length (without-blanks false text) ≤ length out₀
+  pub whole : without-marks OUTSIDE text ≡ gone ++ in-a-row (ahead .come)
+  pub room : from + length (without-marks OUTSIDE text) ≤ length out₀
   pub put-at-end : put ≡ from + length gone
   pub holds : out ≡ put-at out₀ from gone
 
@@ -59,7 +58,7 @@ module _ {text out₀ : List ℕ} {from : ℕ} {out : List ℕ} {at put : ℕ} (
     bytes : List ℕ
     bytes = piece-print (passed .first)
 
-    parts : without-blanks false text ≡ (inv .gone ++ bytes) ++ in-a-row (passed .later)
+    parts : without-marks OUTSIDE text ≡ (inv .gone ++ bytes) ++ in-a-row (passed .later)
     unfolding in-a-row bytes
     parts = inv .whole ∙ ap (λ ps. inv .gone ++ in-a-row ps) (passed .parts) ∙ sym (append-assoc (inv .gone) bytes (in-a-row (passed .later)))
 

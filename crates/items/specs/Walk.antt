@@ -2,12 +2,13 @@
 -- begin; or that there is none.
 use Prim.Native.Nat.{ℕ, _+_, _<_, _≤_}
 use mathlib.Core.Path.{_≡_}
+use mathlib.Core.Bool.{false}
 use mathlib.Core.List.{List, [], _∷_, _++_}
-use lib.ListN.{length, drop}
+use lib.ListN.{length, getD, drop}
 use Rattle.kinds.specs.Limits.{textLimit, tokenLimit}
 use Rattle.plan.specs.Plan.{Plan, print}
 use Rattle.plan.specs.Pieces.{Found, Piece as PlanPiece, OP, TOKEN, BEGIN, END, Shows, piece-print, pieces}
-use Rattle.plan.specs.Reading.{place}
+use Rattle.plan.specs.Reading.{Mark, class, mark, place}
 use Rattle.pieces.specs.Written.{Is}
 use Rattle.pieces.specs.declared.Piece.{Piece as CodePiece}
 use Rattle.pieces.specs.declared.Piece.the-variants.{Token}
@@ -55,6 +56,24 @@ pub record TokenFrom (text : List ℕ) (at : ℕ) : Type 0 where
   pub inside : at < length text
   pub t : List ℕ
   pub found : Found tokenLimit (drop (at + 1) text) t
+
+-- the mark that has the bytes m behind its first stands at the place
+pub record MarkAt (text : List ℕ) (at : ℕ) (m : List ℕ) : Type 0 where
+  pub rest : List ℕ
+  pub splits : drop (at + 1) text ≡ m ++ rest
+  pub is : Mark tokenLimit (getD text at 0) m
+
+pub record MarkFrom (text : List ℕ) (at : ℕ) : Type 0 where
+  pub short : length text ≤ textLimit
+  pub inside : at < length text
+  pub m : List ℕ
+  pub found : MarkAt text at m
+
+-- the text shows pieces from the place on, where no mark begins
+pub record PieceFrom (text : List ℕ) (at : ℕ) : Type 0 where
+  pub ahead : ShowsAhead text at
+  pub inside : at < length text
+  pub no-mark : mark (class (getD text at 0)) (drop (at + 1) text) ≡ false
 
 -- the text shows the pieces of a plan, and its printed text has room in the output from the place on
 pub record Tidyable (text out : List ℕ) (from : ℕ) : Type 0 where

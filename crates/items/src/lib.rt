@@ -1,17 +1,18 @@
-// One walk over an accepted text, piece by piece, for all that read such a text. What means nothing, SP and LF outside tokens, is passed
-// over here and nowhere else; no fault is looked for, since there is none.
+// One walk over an accepted text, piece by piece, for all that read such a text. Marks, which mean nothing (SP, LF and annotations), are
+// passed over here and nowhere else; no fault is looked for, since there is none.
 ghost use mathlib.Core.Path.{_≡_};
-ghost use Prim.Native.Nat.{ℕ, _+_, _<_};
+ghost use Prim.Native.Nat.{ℕ, suc, _+_, _<_};
 ghost use mathlib.Core.List.{List};
 ghost use lib.ListN.{length, drop};
 ghost use Rattle.kinds.specs.Limits.{textLimit, tokenLimit};
 ghost use Rattle.plan.specs.Pieces.{Found, Piece as PlanPiece, Shows};
-ghost use Rattle.items.specs.Walk.{ShowsAhead, TokenFrom, Walked, one-byte, one-token};
+ghost use Rattle.items.specs.Walk.{MarkAt, MarkFrom, PieceFrom, ShowsAhead, TokenFrom, Walked, one-byte, one-token};
 use kinds::Place;
 use kinds::Token;
 use pieces::Piece;
 use plan::Class;
 use text::class_of;
+use text::is_mark;
 
 mod tidy;
 
@@ -69,6 +70,33 @@ fn byte_piece(piece: Piece, at: usize) -> NextPiece
     }
 }
 
+// The place behind a mark: an annotation ends as every token does.
+fn mark_end(text: &[u8], at: usize) -> usize
+    requires { ⌜ MarkFrom (now text) at ⌝ }
+    ensures { λ r. ⌜ ((m : List ℕ) → MarkAt (now (text .entry)) at m → r ≡ at + suc (length m)) ⌝ }
+{
+    if text[at] == b'{' {
+        return token_end(text, at + 1) + 1;
+    }
+    at + 1
+}
+
+// The piece that begins at a place of an accepted text, where no mark does.
+fn piece_at(text: &[u8], at: usize) -> NextPiece
+    requires { ⌜ PieceFrom (now text) at ⌝ }
+    ensures { λ r. ⌜ ((ps : List (PlanPiece ℕ)) → Shows tokenLimit at (drop at (now (text .entry))) ps → Walked (now (text .entry)) at r ps) ⌝ }
+{
+    match class_of(text[at]) {
+        Class::Operator(operator) => byte_piece(Piece::Operator(operator), at),
+        Class::Open => byte_piece(Piece::Open, at),
+        Class::Close => byte_piece(Piece::Close, at),
+        Class::Brace => token_piece(text, at),
+        // A blank is a mark, and an accepted text has no refused byte.
+        Class::Blank => NextPiece::End,
+        Class::Bad => NextPiece::End,
+    }
+}
+
 // The next piece of an accepted text, from the cursor on, or its end.
 pub fn next(text: &[u8], cursor: Cursor) -> NextPiece
     requires { ⌜ ShowsAhead (now text) (cursor .at) ⌝ }
@@ -76,14 +104,10 @@ pub fn next(text: &[u8], cursor: Cursor) -> NextPiece
 {
     let mut at = cursor.at;
     while at < text.len() {
-        match class_of(text[at]) {
-            Class::Blank => at += 1,
-            Class::Operator(operator) => return byte_piece(Piece::Operator(operator), at),
-            Class::Open => return byte_piece(Piece::Open, at),
-            Class::Close => return byte_piece(Piece::Close, at),
-            Class::Brace => return token_piece(text, at),
-            // An accepted text has no such byte.
-            Class::Bad => return NextPiece::End,
+        if is_mark(text, at) {
+            at = mark_end(text, at);
+        } else {
+            return piece_at(text, at);
         }
     }
     NextPiece::End

@@ -1,4 +1,4 @@
-// A text written without its blanks: its pieces in a row, which are the printed text of the plan that it reads as.
+// A text written without its marks: its pieces in a row, which are the printed text of the plan that it reads as.
 ghost use mathlib.Core.Path.{_≡_};
 ghost use Prim.Native.Nat.{ℕ};
 ghost use Rattle.kinds.specs.Limits.{tokenLimit};

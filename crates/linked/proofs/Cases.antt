@@ -2,6 +2,7 @@
 -- the definition of the answer.
 use Prim.Native.Nat.{ℕ, _≤_, _<_}
 use mathlib.Core.Path.{_≡_, refl, ap, ap₂, sym, subst, _∙_}
+use mathlib.Core.Bool.{Bool, true, false, cond}
 use mathlib.Core.List.{List, _++_}
 use native.Mathlib.Omega.{arith}
 use borrow.Author.Tests.{leb-true, leb-false, le-ltb, lt-ltb, ltb-true, ltb-false}
@@ -12,14 +13,14 @@ use Rattle.kinds.specs.Limits.{cellLimit, textLimit, tokenLimit}
 use Rattle.plan.specs.declared.Refusal.{Refusal}
 use Rattle.plan.specs.declared.Refusal.the-variants.{Text as BadText}
 use Rattle.plan.specs.declared.TextFault.{TextFault}
-use Rattle.plan.specs.Plan.{Plan, cells, end, print}
+use Rattle.plan.specs.Plan.{Plan, bare, cells, end, print}
 use Rattle.plan.specs.Reading.{PLAN, REFUSED, Reading, fit, outermost, read, read-from}
 use Rattle.plan.specs.Refusals.{Row, fault, overfull, unclosed}
 use Rattle.plan.specs.Services.{standard}
 use Rattle.plan.proofs.Reached.{text-read}
 use Rattle.plan.proofs.Refusals.{plan-injective, plan-is-no-refusal, refused-row, row-refused}
 use Rattle.plan.proofs.Tests.{cond-cases, never}
-use Rattle.words.specs.Answers.{GIVES, LinkOutcome, LinkWritten, link-by, link-numbers, link-read, link-text, links, read-text, within, write-linked}
+use Rattle.words.specs.Answers.{GIVES, LinkOutcome, REFUSES, LinkWritten, link-by, link-numbers, link-read, link-text, links, read-text, within, write-linked}
 use Rattle.words.specs.Linking.{Word}
 use Rattle.words.specs.Stock.{FAULT, Stock, WORDS, stock}
 use Rattle.words.specs.declared.LinkAnswer.{LinkAnswer}
@@ -29,6 +30,7 @@ use Rattle.linking.specs.Calls.{Links}
 use Rattle.linked.specs.Lists.{BadList, HasWords}
 use Rattle.linked.specs.Table.{Faulty, LinkedAs, row-11, rows-13-to-16}
 use Rattle.linked.specs.Words.{IsLinked, HasPlan, linked-by}
+use Rattle.linked.proofs.Meanings.{bare-cells, bare-print}
 use Rattle.linked.proofs.Lists.{bad-exactly-when, not-both, one-stock, right-exactly-when}
 use Rattle.linked.proofs.Numbers.{refusal-over}
 
@@ -137,11 +139,31 @@ link-cases list text out = by-stock (stock standard list) refl
 pub link-case : {list text out : List ℕ} {r : LinkAnswer} {out′ : List ℕ} → Links list text out r out′ → LinkCase list text out r out′
 link-case {list} {text} {out} call = rw (call .answer, call .output) (link-cases list text out)
 
+-- a fault of the list comes first, and then one of the text
+pub by-bad-list : {list : List ℕ} {rank : ℕ} → BadList list rank → (text out : List ℕ)
+    → link-text standard list text out ≡ record { answer = Refused (BadWords rank); output = out }
+unfolding link-text links link-by write-linked
+by-bad-list {list} {rank} bad text out = rw (bad-exactly-when list rank .0 bad)
+
+pub by-bad-text : {list text : List ℕ} {ws : List Word} {f : TextFault} → HasWords list ws → Faulty text f → (out : List ℕ)
+    → link-text standard list text out ≡ record { answer = Refused (Text f); output = out }
+unfolding link-text links link-by link-read write-linked
+by-bad-text {list} {ws = ws} has bad out = rw (right-exactly-when list ws .0 has, fault-found bad)
+
 -- where the list is right and the text reads, the rest is settled by the linked plan
 pub by-linked-plan : {list text : List ℕ} {ws : List Word} {p : Plan ℕ} → HasWords list ws → HasPlan text p
     → (out : List ℕ) → link-text standard list text out ≡ write-linked (within standard (linked-by ws p)) out
 unfolding link-text links link-by link-read
 by-linked-plan {list} {ws = ws} has reads out = rw (right-exactly-when list ws .0 has, plan-found reads)
+
+-- by its items, and not by their places
+pub same-written : (q q′ : Plan ℕ) → bare q ≡ bare q′ → (out : List ℕ) → write-linked (within standard q) out ≡ write-linked (within standard q′) out
+unfolding within write-linked
+same-written q q′ e out = rw (bare-cells q q′ e) (by-cells (leb (cells q′) cellLimit))
+  where
+    by-cells : (few : Bool) → write-linked (cond few (GIVES q) (REFUSES Overfull)) out ≡ write-linked (cond few (GIVES q′) (REFUSES Overfull)) out
+    by-cells true = rw (bare-print q q′ e, bare-cells q q′ e)
+    by-cells false = refl
 
 module _ {list text out : List ℕ} {r : LinkAnswer} {out′ : List ℕ} (call : Links list text out r out′) where
   -- a call that linked had a right list and a text that reads,

@@ -2,7 +2,7 @@
 -- the theorems about it would hold and say nothing.
 use Prim.Native.Nat.{ℕ, zero, suc, _<_}
 use mathlib.Core.Path.{refl}
-use mathlib.Core.List.{List, [], _∷_, _++_}
+use mathlib.Core.List.{List, [], _∷_, _++_, map}
 use native.Mathlib.Omega.{arith}
 use lib.ListN.{length, replicate, length-replicate}
 use Rattle.kinds.specs.Limits.{cellLimit, textLimit}
@@ -11,9 +11,9 @@ use Rattle.plan.specs.declared.Refusal.the-variants.{Text as BadText}
 use Rattle.plan.specs.declared.TextFault.the-variants.{TooLong, Unmatched}
 use Rattle.plan.specs.Options.{under}
 use Rattle.plan.specs.Plan.{Plan, _then_, cells, labels, letter, print}
-use Rattle.plan.specs.Reading.{class, fit, go-on, move, past-token, place, read, read-from}
+use Rattle.plan.specs.Reading.{class, enter, fit, go-on, leave, mark, move, past-token, place, read, read-from, without-marks}
 use Rattle.plan.specs.Services.{accept, standard}
-use Rattle.plan.specs.Token.{follows, scalar, value, well-formed, all-permitted, allowed, before-brace, character, if-allowed, may-hold, permits, token-text}
+use Rattle.plan.specs.Token.{annotation, follows, scalar, value, well-formed, all-permitted, allowed, before-brace, character, if-allowed, may-hold, permits, token-text}
 use Rattle.plan.specs.Worked.{bytes}
 use Rattle.plan.proofs.Answers.{refuses-iff}
 use Rattle.stored.specs.Counted.{counted, number, so-many, then-read}
@@ -27,8 +27,9 @@ use Rattle.linking.specs.Calls.{Links}
 use Rattle.turnip.specs.Linking.{LinkAnswers}
 use Rattle.linked.specs.Lists.{BadList, FaultyWord, HasWords, bad-name, bad-text, earlier, named-already, newest, no-name, used-already}
 use Rattle.linked.specs.Table.{AsAsked, Faulty, LinkRefuses, LinkedAs, row-11}
-use Rattle.linked.specs.Words.{IsLinked, HasPlan, no-words, refusal}
+use Rattle.linked.specs.Words.{IsLinked, HasPlan, no-words, refusal, without-its-marks}
 use Rattle.linked.proofs.Cases.{linked-as, linked-by-words}
+use Rattle.linked.proofs.Lists.{right-exactly-when}
 use Rattle.linked.proofs.OneAnswer.{link-as-asked}
 use Rattle.linked.proofs.Refused.{badwords-exactly-when, link-refused}
 
@@ -58,6 +59,13 @@ uses (suc n) = bytes "{%x}" ++ uses n
 abbrev too-big : List ℕ
 too-big = 3 ∷ 0 ∷ 0 ∷ 0 ∷ in-list (bytes "x") (replicate 64 97) ++ 1 ∷ 0 ∷ 0 ∷ 0 ∷ (bytes "z" ++ 4 ∷ 1 ∷ 0 ∷ 0 ∷ uses 65) ++ in-list (bytes "w") (bytes "a")
 
+abbrev of : (name text : List ℕ) → Word
+of name text = record { name = name; text = text }
+
+-- one word with this text
+abbrev annotated : (text : List ℕ) → List ℕ
+annotated text = 1 ∷ 0 ∷ 0 ∷ 0 ∷ in-list (bytes "x") text
+
 pub calls : Links list text out (Linked 9 22) (bytes "[{y}][{y}][[{y}]]{%q}a" ++ 7 ∷ 7 ∷ [])
     × Links list text [] (Refused (OutShort 22)) []
     × Links list (bytes "{y}]") out (Refused (Text (Unmatched (place 3)))) out
@@ -69,7 +77,8 @@ pub calls : Links list text out (Linked 9 22) (bytes "[{y}][{y}][[{y}]]{%q}a" ++
     × Links big (uses 65) out (Refused Overfull) out
     × Links (2 ∷ 0 ∷ 0 ∷ 0 ∷ in-list (bytes "x") (bytes "[{%z}]") ++ in-list (bytes "z") []) text out (Refused (BadWords 1)) out
     × Links too-big (bytes "{%w}") out (Linked 1 1) (97 ∷ replicate 23 7)
-unfolding uses link-text links link-by link-read within write-linked read-text stock as-counted stocked next-word right fits is-name acceptable is-read word listed used holds plan-of plan-in link in-place stands-for number so-many counted then-read same accept read read-from go-on move past-token fit class token-text if-allowed before-brace allowed all-permitted permits may-hold character value follows scalar well-formed cells labels print letter _then_ under bytes
+    × Links (annotated (bytes "{&}{y}")) (bytes "{&a}{%x}") out (Linked 1 3) (bytes "{y}" ++ replicate 21 7)
+unfolding uses link-text links link-by link-read within write-linked read-text stock as-counted stocked next-word right fits is-name acceptable is-read word listed used holds plan-of plan-in link in-place stands-for number so-many counted then-read same accept read read-from go-on move past-token mark annotation fit class token-text if-allowed before-brace allowed all-permitted permits may-hold character value follows scalar well-formed cells labels print letter _then_ under bytes
 calls = (
   record { answer = refl; output = refl },
   record { answer = refl; output = refl },
@@ -82,7 +91,14 @@ calls = (
   record { answer = refl; output = refl },
   record { answer = refl; output = refl },
   record { answer = refl; output = refl },
+  record { answer = refl; output = refl },
 )
+
+-- a list with an annotation in a word's text, and the list without it
+pub annotated-lists : HasWords (annotated (bytes "{&}{y}")) (of (bytes "x") (bytes "{&}{y}") ∷ [])
+    × HasWords (annotated (bytes "{y}")) (map without-its-marks (of (bytes "x") (bytes "{&}{y}") ∷ []))
+unfolding calls without-marks enter leave
+annotated-lists = (right-exactly-when _ _ .1 refl, right-exactly-when _ _ .1 refl)
 
 -- a list at fault, in each of the ways
 pub bad-lists : BadList (1 ∷ 0 ∷ 0 ∷ []) 0 × BadList (1 ∷ 1 ∷ 0 ∷ 0 ∷ []) 256 × BadList (1 ∷ 0 ∷ 0 ∷ 0 ∷ 1 ∷ []) 0
@@ -96,12 +112,9 @@ bad-lists = (
 )
 
 -- a word at fault, in each of the ways: `OneOf` in both of its own, and `Uses` in a block
-abbrev of : (name text : List ℕ) → Word
-of name text = record { name = name; text = text }
-
 pub faulty-words : FaultyWord [] (of [] []) × FaultyWord [] (of (bytes "{") []) × FaultyWord (of (bytes "z") [] ∷ of (bytes "x") [] ∷ []) (of (bytes "x") [])
     × FaultyWord [] (of (bytes "x") (bytes "{y}]")) × FaultyWord [] (of (bytes "x") (bytes "[{%x}]"))
-unfolding holds plan-of plan-in same accept read read-from go-on move past-token fit class token-text if-allowed before-brace allowed all-permitted permits may-hold character value follows scalar well-formed cells labels _then_ under bytes
+unfolding holds plan-of plan-in same accept read read-from go-on move past-token mark annotation fit class token-text if-allowed before-brace allowed all-permitted permits may-hold character value follows scalar well-formed cells labels _then_ under bytes
 faulty-words = (
   no-name refl,
   bad-name refl,

@@ -8,7 +8,7 @@ use lib.ListN.{length, length-append}
 use Rattle.kinds.specs.Limits.{cellLimit, textLimit, tokenLimit}
 use Rattle.plan.specs.declared.Numbers.{Numbers}
 use Rattle.plan.specs.Plan.{Plan, _then_, bare, cells, print}
-use Rattle.plan.proofs.Faultless.{blanks-then, faultless-then}
+use Rattle.plan.proofs.Faultless.{marks-then, faultless-then}
 use Rattle.plan.proofs.Plans.{allowed-then, cells-then, print-then}
 use Rattle.plan.proofs.Reached.{text-read}
 use Rattle.plan.proofs.ReadBack.{print-injective}
@@ -37,7 +37,7 @@ reads-then : {a b : List ℕ} {p q : Plan ℕ} → HasPlan a p → HasPlan b q �
 reads-then {a} {b} {p} {q} x y short =
     let whole = text-read (faultless-then (reads-faultless x) (reads-faultless y)) in
     let printed : print (whole .plan) ≡ print (p then q) =
-    whole .printed ∙ blanks-then (reads-faultless x) b ∙ ap₂ _++_ (sym (reads-known x .printed)) (sym (reads-known y .printed)) ∙ sym (print-then p q) in
+    whole .printed ∙ marks-then (reads-faultless x) b ∙ ap₂ _++_ (sym (reads-known x .printed)) (sym (reads-known y .printed)) ∙ sym (print-then p q) in
     record {
       plan = whole .plan;
       reads = record { short = short; reads = whole .reads };

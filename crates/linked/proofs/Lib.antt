@@ -1,4 +1,5 @@
 pub mod Again
+pub mod Annotations
 pub mod Cases
 pub mod Cells
 pub mod Instances

@@ -1,4 +1,4 @@
--- Laws of what texts and linked plans mean: a text that reads has allowed tokens only, and so has its linked plan, which prints as a text
+-- Laws of what texts and linked plans mean: a text that reads has names only for tokens, and so has its linked plan, which prints as a text
 -- that reads back; and labels, the places of the items, change nothing of what is held, linked or printed.
 use Prim.Native.Nat.{ℕ, _≤_, _<_}
 use mathlib.Core.Path.{_≡_, refl, ap, ap₂, sym, _∙_}
@@ -55,8 +55,8 @@ pub accepted-reads : (n : ℕ) {text : List ℕ} {p : Plan ℕ} → accept stand
 accepted-reads n {text} e =
     let t = accepted-text standard n text e in record { short = t .short; reads = read-faultless tokenLimit n text (t .reads) .2 }
 
--- a linked plan has allowed tokens only
-linked-allowed : {list text : List ℕ} {ws : List Word} {p : Plan ℕ} → HasWords list ws → HasPlan text p → Allowed tokenLimit (linked-by ws p)
+-- a linked plan has names only for tokens
+pub linked-allowed : {list text : List ℕ} {ws : List Word} {p : Plan ℕ} → HasWords list ws → HasPlan text p → Allowed tokenLimit (linked-by ws p)
 linked-allowed {ws = ws} {p} has reads =
     allowed-link (stands-for tokenLimit ws) tokenLimit p (reads-known reads .fine) (stands-allowed standard ws (words-right has))
 
@@ -86,7 +86,7 @@ module _ {L M : Type 0} (f : L → M) where
   relabel-in-place (some q) l t p = relabel-then f q p
 
   -- and are linked to the same items
-  relabel-link : (stands : List ℕ → Option (Plan L)) (p : Plan L)
+  pub relabel-link : (stands : List ℕ → Option (Plan L)) (p : Plan L)
       → relabel f (link stands p) ≡ link (λ t. under (relabel f) (stands t)) (relabel f p)
   unfolding link relabel
   relabel-link stands end = refl

@@ -1,7 +1,7 @@
 -- The order of definitions settles everything, and no list loops: a word's linked plan is its text's plan linked by the words before it,
 -- and the words that stand later change nothing for it.
 use Prim.Native.Nat.{ℕ, _≤_}
-use mathlib.Core.Path.{_≡_, ap, sym, _∙_}
+use mathlib.Core.Path.{_≡_, refl, ap, sym, _∙_}
 use mathlib.Core.Bool.{true}
 use mathlib.Core.Option.{some}
 use mathlib.Core.List.{List, [], _∷_, _++_}
@@ -13,7 +13,7 @@ use Rattle.kinds.specs.Limits.{cellLimit, tokenLimit}
 use Rattle.plan.specs.Pieces.{placed}
 use Rattle.plan.specs.Plan.{cells, close-brace, end, open-brace, print, token}
 use Rattle.plan.specs.Services.{standard}
-use Rattle.plan.specs.Token.{allowed}
+use Rattle.plan.specs.Token.{allowed, annotation}
 use Rattle.plan.proofs.Plans.{then-end}
 use Rattle.plan.proofs.Slots.{print-accepted, standard-roomy}
 use Rattle.plan.proofs.Tests.{and-true}
@@ -67,10 +67,10 @@ module _ {list : List ℕ} (newer older : List Word) (w : Word) (has : HasWords 
 
   -- the word's token as a text
   token-reads : HasPlan (open-brace ∷ (stock-token w ++ close-brace ∷ [])) (token 0 (stock-token w) end)
-  unfolding print placed cells
+  unfolding annotation print placed cells
   token-reads =
       accepted-reads cellLimit
-      (print-accepted standard standard-roomy cellLimit (omega arith) (token 0 (stock-token w) end) (may, tt) (omega arith))
+      (print-accepted standard standard-roomy cellLimit (omega arith) (token 0 (stock-token w) end) (record { fine = may; own = refl }, tt) (omega arith))
 
   token-linked : linked-by (newer ++ w ∷ older) (token 0 (stock-token w) end) ≡ linked-by older (plan-of tokenLimit (w .text))
   unfolding link in-place

@@ -8,7 +8,7 @@ use lib.ListN.{length, take}
 use Rattle.kinds.specs.Limits.{textLimit, tokenLimit}
 use Rattle.plan.specs.declared.Numbers.{Numbers}
 use Rattle.plan.specs.Plan.{Plan, end}
-use Rattle.plan.specs.Reading.{PLAN, outermost, read-from}
+use Rattle.plan.specs.Reading.{OUTSIDE, PLAN, outermost, read-from, without-marks}
 use Rattle.words.specs.Answers.{link-numbers}
 use Rattle.words.specs.Linking.{Word, link, stands-for}
 use Rattle.words.specs.declared.LinkAnswer.{LinkAnswer}
@@ -39,6 +39,10 @@ pub record HasPlan (text : List ℕ) (p : Plan ℕ) : Type 0 where
 -- the plan, linked by these words
 abbrev pub linked-by : List Word → Plan ℕ → Plan ℕ
 linked-by ws p = link (stands-for tokenLimit ws) p
+
+-- the word with the marks taken out of its text
+abbrev pub without-its-marks : Word → Word
+without-its-marks w = record { name = w .name; text = without-marks OUTSIDE (w .text) }
 
 -- the list of no words: a count of 0
 abbrev pub no-words : List ℕ

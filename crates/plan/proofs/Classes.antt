@@ -2,7 +2,7 @@
 use Prim.Native.Nat.{ℕ}
 use mathlib.Core.Path.{_≡_, _∙_, refl, ap, subst}
 use mathlib.Core.Logic.{_↔_, _≢_, inl, inr, ⊎-elim}
-use mathlib.Core.Bool.{Bool, true, false, not, _||_}
+use mathlib.Core.Bool.{true, false, not}
 use lib.Dec.{T, T-not, eqb, eqb-refl}
 use borrow.Author.Tests.{eqb-true, eqb-false, ne-eqb}
 use Rattle.plan.specs.Plan.{Operator, op-a, op-b, op-c, op-d, letter, open-bracket, close-bracket, open-brace}
@@ -79,14 +79,6 @@ rank BAD = 5
 pub clash : {c d : Class} → c ≡ d → T (not (eqb (rank c) (rank d))) → ⊥
 clash {c} {d} e h = T-not (eqb (rank c) (rank d)) h (subst (λ x. T (eqb (rank c) (rank x))) e (eqb-refl (rank c)))
 
--- what is not of the class BLANK is kept, and what is not of the class BRACE opens no token
-pub class-blank : (b : ℕ) → (eqb b 32 || eqb b 10) ≡ true → class b ≡ BLANK
-unfolding class
-class-blank b e = go (eqb b 32) refl e
-  where
-    go : (t : Bool) → eqb b 32 ≡ t → (t || eqb b 10) ≡ true → class b ≡ BLANK
-    go true q e = ap class (eqb-true b 32 q)
-    go false q e = ap class (eqb-true b 10 e)
-
+-- what is not of the class BRACE opens no token
 pub not-brace : (b : ℕ) → class b ≢ BRACE → eqb b open-brace ≡ false
 not-brace b h = ne-eqb b open-brace (λ e. h (ap class e ∙ class-brace))

@@ -1,87 +1,86 @@
 -- Bytes without a fault behind bytes without a fault hold none either; and how many bytes blocks, items and the text
--- without its blanks take at the least.
+-- without its marks take at the least.
 use Prim.Native.Nat.{ℕ, suc, _+_, _≤_, _<_}
 use mathlib.Core.Path.{_≡_, refl, ap, sym, _∙_, subst}
-use mathlib.Core.Bool.{Bool, true, false, not, _||_}
+use mathlib.Core.Logic.{_≢_}
 use mathlib.Core.List.{List, [], _∷_, _++_, append-assoc}
 use native.Mathlib.Omega.{arith}
 use native.Mathlib.Nat.{zero-add, suc-add}
 use native.Mathlib.Numerals.{add-one}
 use lib.ListN.{length, getD, take, length-append}
 use lib.Seq.{take-suc}
-use lib.Dec.{eqb}
 use Rattle.plan.specs.Plan.{open-brace, close-brace}
-use Rattle.plan.specs.Reading.{without-blanks}
-use Rattle.plan.specs.Refusals.{Faultless, nothing, blank, an-operator, a-token, opens, closes}
-use Rattle.plan.proofs.Blanks.{seam, token-seam}
-use Rattle.plan.proofs.Classes.{class-byte, clash}
+use Rattle.plan.specs.Reading.{BRACE, BLANK, Region, OUTSIDE, IN-TOKEN, IN-ANNOTATION, class, enter, leave, mark, without-marks}
+use Rattle.plan.specs.Refusals.{Faultless, nothing, a-mark, an-operator, a-token, opens, closes}
+use Rattle.plan.proofs.Marks.{kept, mark-dropped, token-kept}
+use Rattle.plan.proofs.Classes.{clash}
 use Rattle.plan.proofs.Tests.{cond-cases}
-use Rattle.plan.proofs.Tokens.{allowed-no-brace}
 
 pub faultless-then : {limit d e f j k : ℕ} {xs ys : List ℕ} → Faultless limit d xs e j → Faultless limit e ys f k
     → Faultless limit d (xs ++ ys) f (j + k)
 faultless-then nothing g = rw zero-add g
-faultless-then (blank c h) g = blank c (faultless-then h g)
+faultless-then {ys = ys} (a-mark {m = m} {bs = bs} h f) g = rw (append-assoc m bs ys) (a-mark h (faultless-then f g))
 faultless-then (an-operator c h) g = rw suc-add (an-operator c (faultless-then h g))
 faultless-then {ys = ys} (a-token {bs = bs} t c a h) g =
     rw (suc-add, append-assoc t (close-brace ∷ bs) ys) (a-token t c a (faultless-then h g))
 faultless-then (opens c h) g = rw suc-add (opens c (faultless-then h g))
 faultless-then (closes c h) g = closes c (faultless-then h g)
 
--- no token stands across the seam behind xs
+-- no token and no mark stands across the seam behind xs
 abbrev Seamless : List ℕ → Type 0
-Seamless xs = (us : List ℕ) → without-blanks false (xs ++ us) ≡ without-blanks false xs ++ without-blanks false us
+Seamless xs = (us : List ℕ) → without-marks OUTSIDE (xs ++ us) ≡ without-marks OUTSIDE xs ++ without-marks OUTSIDE us
 
-seamless-then : (xs bs : List ℕ) → Seamless xs → Seamless bs → Seamless (xs ++ bs)
-seamless-then xs bs s t ys =
-    ap (without-blanks false) (append-assoc xs bs ys) ∙ s (bs ++ ys) ∙ ap (without-blanks false xs ++_) (t ys)
-    ∙ sym (append-assoc (without-blanks false xs) (without-blanks false bs) (without-blanks false ys))
-    ∙ ap (_++ without-blanks false ys) (sym (s bs))
+-- one piece more before them, of which `stays` is kept
+seam : (front stays bs : List ℕ) → ((us : List ℕ) → without-marks OUTSIDE (front ++ us) ≡ stays ++ without-marks OUTSIDE us)
+    → Seamless bs → Seamless (front ++ bs)
+seam front stays bs h s us =
+    ap (without-marks OUTSIDE) (append-assoc front bs us) ∙ h (bs ++ us) ∙ ap (stays ++_) (s us)
+    ∙ sym (append-assoc stays (without-marks OUTSIDE bs) (without-marks OUTSIDE us)) ∙ ap (_++ without-marks OUTSIDE us) (sym (h bs))
 
-pub blanks-then : {limit d e k : ℕ} {xs : List ℕ} → Faultless limit d xs e k → Seamless xs
-unfolding without-blanks
-blanks-then nothing = λ us. refl
-blanks-then (blank {b = b} {bs = bs} c h) =
-    seamless-then (b ∷ []) bs (λ us. seam b us (λ z. clash (sym c ∙ z) tt)) (blanks-then h)
-blanks-then (an-operator {b = b} {bs = bs} c h) =
-    seamless-then (b ∷ []) bs (λ us. seam b us (λ z. clash (sym c ∙ z) tt)) (blanks-then h)
-blanks-then {limit} (a-token {b = b} {bs = bs} t c a h) =
-    let brace = rw c at (class-byte b) in
-    let whole = seamless-then (b ∷ (t ++ close-brace ∷ [])) bs (λ us. token-seam b t us brace (allowed-no-brace limit t a)) (blanks-then h) in
+byte-seam : (b : ℕ) (bs : List ℕ) → class b ≢ BRACE → class b ≢ BLANK → Seamless bs → Seamless (b ∷ bs)
+byte-seam b bs h g = seam (b ∷ []) (b ∷ []) bs (λ us. kept b us h g)
+
+pub marks-then : {limit d e k : ℕ} {xs : List ℕ} → Faultless limit d xs e k → Seamless xs
+unfolding without-marks
+marks-then nothing = λ us. refl
+marks-then (a-mark {b = b} {m = m} {bs = bs} h f) = seam (b ∷ m) [] bs (λ us. mark-dropped us h) (marks-then f)
+marks-then (an-operator {b = b} {bs = bs} c h) = byte-seam b bs (λ z. clash (sym c ∙ z) tt) (λ z. clash (sym c ∙ z) tt) (marks-then h)
+marks-then {limit} (a-token {b = b} {bs = bs} t c a h) =
+    let whole = seam (b ∷ (t ++ close-brace ∷ [])) (open-brace ∷ (t ++ close-brace ∷ [])) bs
+    (λ us. rw (append-assoc t (close-brace ∷ []) us, append-assoc t (close-brace ∷ []) (without-marks OUTSIDE us)) (token-kept limit b t us c a)) (marks-then h) in
     subst (λ us. Seamless (b ∷ us)) (append-assoc t (close-brace ∷ []) bs) whole
-blanks-then (opens {b = b} {bs = bs} c h) =
-    seamless-then (b ∷ []) bs (λ us. seam b us (λ z. clash (sym c ∙ z) tt)) (blanks-then h)
-blanks-then (closes {b = b} {bs = bs} c h) =
-    seamless-then (b ∷ []) bs (λ us. seam b us (λ z. clash (sym c ∙ z) tt)) (blanks-then h)
+marks-then (opens {b = b} {bs = bs} c h) = byte-seam b bs (λ z. clash (sym c ∙ z) tt) (λ z. clash (sym c ∙ z) tt) (marks-then h)
+marks-then (closes {b = b} {bs = bs} c h) = byte-seam b bs (λ z. clash (sym c ∙ z) tt) (λ z. clash (sym c ∙ z) tt) (marks-then h)
 
 -- no more blocks open and no more items begun than there are bytes
 pub faultless-bounds : {limit d e k : ℕ} {xs : List ℕ} → Faultless limit d xs e k → (e ≤ d + length xs) × (k ≤ length xs)
 faultless-bounds nothing = omega arith
-faultless-bounds (blank c h) = omega (arith, faultless-bounds h)
+faultless-bounds (a-mark {m = m} {bs = bs} h f) = omega (arith, faultless-bounds f, length-append m bs)
 faultless-bounds (an-operator c h) = omega (arith, faultless-bounds h)
 faultless-bounds (a-token {bs = bs} t c a h) = omega (arith, faultless-bounds h, length-append t (close-brace ∷ bs))
 faultless-bounds (opens c h) = omega (arith, faultless-bounds h)
 faultless-bounds (closes c h) = omega (arith, faultless-bounds h)
 
-pub without-blanks-length : (in-token : Bool) (bs : List ℕ) → length (without-blanks in-token bs) ≤ length bs
-unfolding without-blanks
-without-blanks-length in-token [] = omega arith
-without-blanks-length true (b ∷ bs) = omega (arith, without-blanks-length (not (eqb b close-brace)) bs)
-without-blanks-length false (b ∷ bs) =
-    let dropped : length (without-blanks false bs) ≤ suc (length bs) = omega (arith, without-blanks-length false bs) in
-    let kept : length (b ∷ without-blanks (eqb b open-brace) bs) ≤ suc (length bs) =
-    omega (arith, without-blanks-length (eqb b open-brace) bs) in
-    cond-cases (λ (us : List ℕ). length us ≤ suc (length bs)) (eqb b 32 || eqb b 10) (λ _. dropped) (λ _. kept)
+pub without-marks-length : (s : Region) (bs : List ℕ) → length (without-marks s bs) ≤ length bs
+unfolding without-marks
+without-marks-length s [] = omega arith
+without-marks-length IN-TOKEN (b ∷ bs) = omega (arith, without-marks-length (leave b IN-TOKEN) bs)
+without-marks-length IN-ANNOTATION (b ∷ bs) = omega (arith, without-marks-length (leave b IN-ANNOTATION) bs)
+without-marks-length OUTSIDE (b ∷ bs) =
+    let passed : length (without-marks (enter b IN-ANNOTATION) bs) ≤ suc (length bs) = omega (arith, without-marks-length (enter b IN-ANNOTATION) bs) in
+    let kept : length (b ∷ without-marks (enter b IN-TOKEN) bs) ≤ suc (length bs) = omega (arith, without-marks-length (enter b IN-TOKEN) bs) in
+    cond-cases (λ (us : List ℕ). length us ≤ suc (length bs)) (mark (class b) bs) (λ _. passed) (λ _. kept)
 
--- a text that is as long without its blanks has none
-pub without-blanks-same : (in-token : Bool) (bs : List ℕ) → length (without-blanks in-token bs) ≡ length bs → without-blanks in-token bs ≡ bs
-unfolding without-blanks
-without-blanks-same in-token [] e = refl
-without-blanks-same true (b ∷ bs) e = ap (b ∷_) (without-blanks-same (not (eqb b close-brace)) bs (omega arith))
-without-blanks-same false (b ∷ bs) e =
-    let kept = without-blanks-same (eqb b open-brace) bs in
-    let few = without-blanks-length false bs in
-    cond-cases (λ (us : List ℕ). length us ≡ suc (length bs) → us ≡ b ∷ bs) (eqb b 32 || eqb b 10) (λ _ h. absurd (omega arith))
+-- a text that is as long without its marks has none
+pub without-marks-same : (s : Region) (bs : List ℕ) → length (without-marks s bs) ≡ length bs → without-marks s bs ≡ bs
+unfolding without-marks
+without-marks-same s [] e = refl
+without-marks-same IN-TOKEN (b ∷ bs) e = ap (b ∷_) (without-marks-same (leave b IN-TOKEN) bs (omega arith))
+without-marks-same IN-ANNOTATION (b ∷ bs) e = absurd (omega (arith, without-marks-length (leave b IN-ANNOTATION) bs))
+without-marks-same OUTSIDE (b ∷ bs) e =
+    let kept = without-marks-same (enter b IN-TOKEN) bs in
+    let few = without-marks-length (enter b IN-ANNOTATION) bs in
+    cond-cases (λ (us : List ℕ). length us ≡ suc (length bs) → us ≡ b ∷ bs) (mark (class b) bs) (λ _ h. absurd (omega arith))
     (λ _ h. ap (b ∷_) (kept (omega arith))) e
 
 -- one byte more of a text

@@ -1,9 +1,10 @@
+pub mod Annotations
 pub mod Answers
-pub mod Blanks
 pub mod Classes
 pub mod Faultless
 pub mod Frames
 pub mod Leftmost
+pub mod Marks
 pub mod MayHold
 pub mod Numbered
 pub mod Options

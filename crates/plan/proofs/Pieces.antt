@@ -3,12 +3,11 @@
 use Prim.Native.Nat.{ℕ, suc}
 use mathlib.Core.Path.{_≡_, refl, ap, sym, subst, _∙_}
 use mathlib.Core.Logic.{_≢_}
-use mathlib.Core.Bool.{true, false}
 use mathlib.Core.List.{List, [], _∷_, _++_, append-assoc, append-nil}
 use lib.ListN.{length}
 use Rattle.plan.specs.Plan.{Plan, end, operator, token, block, _then_, cells, labels, letter, print, relabel, open-bracket, close-bracket, open-brace, close-brace}
-use Rattle.plan.specs.Token.{allowed, Allowed}
-use Rattle.plan.specs.Reading.{Around, outermost, inside, BRACE, BLANK, class, without-blanks}
+use Rattle.plan.specs.Token.{Allowed, Name}
+use Rattle.plan.specs.Reading.{Around, outermost, inside, BRACE, BLANK, OUTSIDE, class, without-marks}
 use Rattle.plan.specs.Refusals.{Begins}
 use Rattle.plan.specs.Pieces.{
   Piece,
@@ -23,7 +22,7 @@ use Rattle.plan.specs.Pieces.{
   relabelled,
   Shows,
   nothing,
-  blank,
+  a-mark,
   an-operator,
   a-token,
   opens,
@@ -32,10 +31,9 @@ use Rattle.plan.specs.Pieces.{
   seen,
   Closes,
 }
-use Rattle.plan.proofs.Blanks.{seam, kept, dropped, token-kept}
+use Rattle.plan.proofs.Marks.{kept, mark-begins-none, mark-dropped, token-kept}
 use Rattle.plan.proofs.Classes.{class-byte, clash}
 use Rattle.plan.proofs.Plans.{length-labels}
-use Rattle.plan.proofs.Tokens.{allowed-no-brace}
 use Rattle.plan.proofs.Tests.{never}
 
 module _ {L : Type 0} where
@@ -172,36 +170,37 @@ seen-then out here q =
 
 -- bytes and their pieces
 
-one-byte : (b x : ℕ) (bs : List ℕ) {r : List ℕ} → class b ≢ BRACE → class b ≢ BLANK → b ≡ x → r ≡ without-blanks false bs → x ∷ r ≡ without-blanks false (b ∷ bs)
-one-byte b x bs h k e g = sym (seam b bs h ∙ rw (kept b k, e, ← g))
+one-byte : (b x : ℕ) (bs : List ℕ) {r : List ℕ} → class b ≢ BRACE → class b ≢ BLANK → b ≡ x → r ≡ without-marks OUTSIDE bs
+    → x ∷ r ≡ without-marks OUTSIDE (b ∷ bs)
+one-byte b x bs h k e g = sym (kept b bs h k ∙ rw (e, ← g))
 
--- in a row they are the bytes without their blanks
-pub shows-row : {limit at : ℕ} {bs : List ℕ} {ps : List (Piece ℕ)} → Shows limit at bs ps → in-a-row ps ≡ without-blanks false bs
-unfolding in-a-row piece-print without-blanks
+-- in a row they are the bytes without their marks
+pub shows-row : {limit at : ℕ} {bs : List ℕ} {ps : List (Piece ℕ)} → Shows limit at bs ps → in-a-row ps ≡ without-marks OUTSIDE bs
+unfolding in-a-row piece-print without-marks
 shows-row nothing = refl
-shows-row (blank {b = b} {bs = bs} c s) = shows-row s ∙ sym (seam b bs (λ z. clash (sym c ∙ z) tt) ∙ ap (_++ without-blanks false bs) (dropped b c))
+shows-row (a-mark {bs = bs} h s) = shows-row s ∙ sym (mark-dropped bs h)
 shows-row (an-operator {b = b} {o = o} {bs = bs} c s) =
     one-byte b (letter o) bs (λ z. clash (sym c ∙ z) tt) (λ z. clash (sym c ∙ z) tt) (rw c at (class-byte b)) (shows-row s)
-shows-row {limit} (a-token {b = b} {bs = bs} t c a s) =
-    append-assoc (open-brace ∷ t) (close-brace ∷ []) _ ∙ rw (shows-row s) (sym (token-kept b t bs (rw c at (class-byte b)) (allowed-no-brace limit t a)))
+shows-row {limit} (a-token {b = b} {bs = bs} t c n s) =
+    append-assoc (open-brace ∷ t) (close-brace ∷ []) _ ∙ rw (shows-row s) (sym (token-kept limit b t bs c n))
 shows-row (opens {b = b} {bs = bs} c s) =
     one-byte b open-bracket bs (λ z. clash (sym c ∙ z) tt) (λ z. clash (sym c ∙ z) tt) (rw c at (class-byte b)) (shows-row s)
 shows-row (closes {b = b} {bs = bs} c s) =
     one-byte b close-bracket bs (λ z. clash (sym c ∙ z) tt) (λ z. clash (sym c ∙ z) tt) (rw c at (class-byte b)) (shows-row s)
 
--- their tokens are allowed
+-- their tokens are names
 abbrev Fine : (limit : ℕ) → List (Piece ℕ) → Type 0
 Fine limit [] = Unit {0}
 Fine limit (OP l o ∷ ps) = Fine limit ps
-Fine limit (TOKEN l t ∷ ps) = (allowed limit t ≡ true) × Fine limit ps
+Fine limit (TOKEN l t ∷ ps) = Name limit t × Fine limit ps
 Fine limit (BEGIN l ∷ ps) = Fine limit ps
 Fine limit (END ∷ ps) = Fine limit ps
 
 fine : {limit at : ℕ} {bs : List ℕ} {ps : List (Piece ℕ)} → Shows limit at bs ps → Fine limit ps
 fine nothing = tt
-fine (blank c s) = fine s
+fine (a-mark h s) = fine s
 fine (an-operator c s) = fine s
-fine (a-token t c a s) = (a, fine s)
+fine (a-token t c n s) = (n, fine s)
 fine (opens c s) = fine s
 fine (closes c s) = fine s
 
@@ -219,10 +218,10 @@ pub shows-allowed : {limit at : ℕ} {bs : List ℕ} (p : Plan ℕ) → Shows li
 shows-allowed {limit} p s = fine-parts limit p [] (rw (append-nil (pieces p)) (fine s)) .0
 
 -- an item that begins with the first byte gives the first label
-pub first-start : {limit at b : ℕ} {bs : List ℕ} {ps : List (Piece ℕ)} → Shows limit at (b ∷ bs) ps → Begins (class b) → (ls : List ℕ) × (starts ps ≡ at ∷ ls)
+pub first-start : {limit at b : ℕ} {bs : List ℕ} {ps : List (Piece ℕ)} → Shows limit at (b ∷ bs) ps → Begins (class b) bs → (ls : List ℕ) × (starts ps ≡ at ∷ ls)
 unfolding starts
-first-start (blank c s) g = absurd (rw c at g)
+first-start (a-mark h s) g = absurd (mark-begins-none _ h g)
 first-start (an-operator c s) g = (_, refl)
-first-start (a-token t c a s) g = (_, refl)
+first-start (a-token t c n s) g = (_, refl)
 first-start (opens c s) g = (_, refl)
 first-start (closes c s) g = absurd (rw c at g)

@@ -1,8 +1,7 @@
 -- Reading and printing undo one another: what is printed is read back as the same plan, and what is read is printed as
--- the text without its blanks.
+-- the text without its marks.
 use Prim.Native.Nat.{ℕ, suc, _+_, _*_, _≤_}
 use mathlib.Core.Path.{_≡_, refl, ap, ap₂, sym, subst, _∙_}
-use mathlib.Core.Bool.{true, false}
 use mathlib.Core.Logic.{_↔_}
 use mathlib.Core.List.{List, [], _∷_, _++_, append-nil, append-assoc}
 use native.Mathlib.Omega.{arith}
@@ -25,20 +24,14 @@ use Rattle.plan.specs.Plan.{
   open-brace,
   close-brace,
 }
-use Rattle.plan.specs.Token.{allowed, Allowed}
-use Rattle.plan.specs.Reading.{Around, outermost, inside, go-on, move, past-token, PLAN, read-from, fit, read, without-blanks}
+use Rattle.plan.specs.Token.{Allowed}
+use Rattle.plan.specs.Reading.{Around, outermost, inside, move, PLAN, OUTSIDE, read-from, fit, read, without-marks}
 use Rattle.plan.specs.Pieces.{Shows, pieces, placed}
 use Rattle.plan.proofs.Classes.{class-letter, class-open, class-close, class-brace}
 use Rattle.plan.proofs.Plans.{then-end, then-assoc, cells-relabel, print-relabel}
-use Rattle.plan.proofs.Reached.{moved, skip-token, text-read}
+use Rattle.plan.proofs.Reached.{moved, text-read, token-passed}
 use Rattle.plan.proofs.Refusals.{plan-injective, read-faultless}
-use Rattle.plan.proofs.Tokens.{allowed-parts, token-text-at}
-
--- a printed token is read and passed over
-token-moved : (limit at : ℕ) (t : List ℕ) (out : Around) (here : Plan ℕ) → allowed limit t ≡ true → (rest : List ℕ)
-    → read-from limit at 0 out here (open-brace ∷ (t ++ close-brace ∷ rest)) ≡ read-from limit (suc at + suc (length t)) 0 out (here then token at t end) rest
-unfolding read-from go-on move past-token
-token-moved limit at t out here a rest = rw (class-brace, token-text-at limit t rest a) (skip-token limit (suc at) out (here then token at t end) t rest)
+use Rattle.plan.proofs.Tokens.{allowed-parts}
 
 module _ {L : Type 0} where
   pub bare-placed : (at : ℕ) (p : Plan L) → bare (placed at p) ≡ bare p
@@ -62,7 +55,7 @@ module _ {L : Type 0} where
       let after = here then token at t end in
       let later = suc at + suc (length t) in
       ap (λ us. read-from limit at 0 out here (open-brace ∷ us)) (append-assoc t (close-brace ∷ print p) rest)
-      ∙ token-moved limit at t out here (h .0) (print p ++ rest)
+      ∙ token-passed limit at open-brace t out here (print p ++ rest) class-brace (h .0 .fine) (h .0 .own)
       ∙ read-printed limit p (h .1) later out after rest
       ∙ ap₂ (λ n q. read-from limit n 0 out q rest) (omega (arith, length-append t (close-brace ∷ print p)))
       (then-assoc here (token at t end) (placed later p))
@@ -84,7 +77,7 @@ module _ {L : Type 0} where
   pub print-placed : (at : ℕ) (p : Plan L) → print (placed at p) ≡ print p
   print-placed at p = sym (print-relabel (λ l. tt) (placed at p)) ∙ ap print (bare-placed at p) ∙ print-relabel (λ l. tt) p
 
-  -- reading the printed text of a plan whose tokens are allowed gives the plan back, but for its labels
+  -- reading the printed text of a plan whose tokens are names, so that none starts with `&`, gives the plan back, but for its labels
   pub read-print : (limit n : ℕ) (p : Plan L) → Allowed limit p → cells p ≤ n → read limit n (print p) ≡ PLAN (placed 0 p)
   unfolding read fit _then_ read-from
   read-print limit n p h g =
@@ -108,11 +101,11 @@ pub equal-iff-print : {L M : Type 0} (limit : ℕ) (p : Plan L) (q : Plan M) →
 equal-iff-print limit p q hp hq =
     (λ e. sym (print-relabel (λ l. tt) p) ∙ ap print e ∙ print-relabel (λ l. tt) q, print-injective limit p q hp hq)
 
--- What is read has only allowed tokens and no more cells than were lent, and is printed as the text without its blanks.
+-- What is read has only names for tokens and no more cells than were lent, and is printed as the text without its marks.
 pub record Accepted (limit n : ℕ) (text : List ℕ) (p : Plan ℕ) : Type 0 where
   pub fine : Allowed limit p
   pub fits : cells p ≤ n
-  pub printed : print p ≡ without-blanks false text
+  pub printed : print p ≡ without-marks OUTSIDE text
   pub shows : Shows limit 0 text (pieces p)
 
 pub read-accepted : (limit n : ℕ) (text : List ℕ) {p : Plan ℕ} → read limit n text ≡ PLAN p → Accepted limit n text p
@@ -127,9 +120,9 @@ read-accepted limit n text {p} e =
       shows = subst (λ q. Shows limit 0 text (pieces q)) same (r .shows);
     }
 
--- The printed text of a plan has no SP or LF outside tokens: taking them out takes out nothing.
-pub print-no-blanks : {L : Type 0} (limit : ℕ) (p : Plan L) → Allowed limit p → without-blanks false (print p) ≡ print p
-print-no-blanks limit p h =
+-- The printed text of a plan has no SP, LF or annotation outside tokens: taking them out takes out nothing.
+pub print-no-marks : {L : Type 0} (limit : ℕ) (p : Plan L) → Allowed limit p → without-marks OUTSIDE (print p) ≡ print p
+print-no-marks limit p h =
     sym (read-accepted limit (cells p) (print p) (read-print limit (cells p) p h (omega arith)) .printed) ∙ print-placed 0 p
 
 -- A token is no longer than its limit and every other cell prints two bytes at most.
@@ -138,6 +131,6 @@ unfolding print cells
 print-bound limit end g h = omega arith
 print-bound limit (operator l o p) g h = omega (arith, print-bound limit p g h)
 print-bound limit (token l t p) g h =
-    omega (arith, print-bound limit p g (h .1), length-append t (close-brace ∷ print p), allowed-parts limit t (h .0))
+    omega (arith, print-bound limit p g (h .1), length-append t (close-brace ∷ print p), allowed-parts limit t (h .0 .fine))
 print-bound limit (block l b p) g h =
     omega (arith, print-bound limit b g (h .0), print-bound limit p g (h .1), length-append (print b) (close-bracket ∷ print p))

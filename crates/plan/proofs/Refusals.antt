@@ -16,7 +16,7 @@ use Rattle.plan.specs.declared.Refusal.the-variants.{Text, Overfull}
 use Rattle.plan.specs.declared.TextFault.{TextFault}
 use Rattle.plan.specs.declared.TextFault.the-variants.{Unclosed}
 use Rattle.plan.specs.Plan.{Plan, end, operator, token, block, _then_, cells, labels, close-brace}
-use Rattle.plan.specs.Token.{token-text}
+use Rattle.plan.specs.Token.{annotation, token-text}
 use Rattle.plan.specs.Reading.{
   Around,
   outermost,
@@ -28,11 +28,14 @@ use Rattle.plan.specs.Reading.{
   BRACE,
   BLANK,
   BAD,
+  blank,
+  an-annotation,
   class,
   place,
   go-on,
   move,
   past-token,
+  mark,
   Reading,
   PLAN,
   REFUSED,
@@ -43,7 +46,7 @@ use Rattle.plan.specs.Reading.{
 use Rattle.plan.specs.Refusals.{
   Faultless,
   nothing,
-  blank,
+  a-mark,
   an-operator,
   a-token,
   opens,
@@ -61,7 +64,7 @@ use Rattle.plan.specs.Refusals.{
 use Rattle.plan.proofs.Options.{Each}
 use Rattle.plan.proofs.Plans.{length-labels}
 use Rattle.plan.proofs.TokenFaults.{fault-no-token, first-met, met-first}
-use Rattle.plan.proofs.Tokens.{token-text-finds}
+use Rattle.plan.proofs.Tokens.{annotation-of, token-text-finds}
 use Rattle.plan.specs.Pieces.{Found, pieces, starts, so-far}
 use Rattle.plan.proofs.Pieces.{first-start, labels-pieces, starts-append}
 use Rattle.plan.proofs.Reached.{depth, reached, read-whole, text-read}
@@ -96,18 +99,31 @@ module _ (limit at b : ℕ) (bs : List ℕ)
 
   by-token : (out : Around) (here : Plan ℕ) (o : Option (List ℕ)) → class b ≡ BRACE → token-text limit bs ≡ o → Each (Found limit bs) o
       → Verdict limit at (depth out) (b ∷ bs) (go-on (past-token limit at bs o out here) then-read)
-  unfolding go-on past-token
+  unfolding go-on past-token mark
   by-token out here none c e s = stopped [] bs b {at = at} refl nothing (bad-token c (first-met limit bs e)) (omega arith)
   by-token out here (some t) c e s =
-      let after = here then token at t end in
-      let there = further (suc (length t)) out after (at + suc (suc (length t))) (omega arith)
-      (omega (arith, ap length (s .splits), length-append t (close-brace ∷ s .rest))) in
-      let past : drop (suc (length t)) bs ≡ s .rest = ap (drop (suc (length t))) (s .splits) ∙ drop-token t (s .rest) in
-      let regrouped : (us : List ℕ) → (t ++ close-brace ∷ []) ++ us ≡ t ++ close-brace ∷ us = append-assoc t (close-brace ∷ []) in
-      let joined : (b ∷ (t ++ close-brace ∷ [])) ++ s .rest ≡ b ∷ bs = ap (b ∷_) (regrouped (s .rest) ∙ sym (s .splits)) in
-      subst (λ us. Verdict limit at (depth out) us (then-read out after (suc (length t)))) joined
-      (behind (b ∷ (t ++ close-brace ∷ [])) (λ us e′ k f. (_, subst (λ vs. Faultless limit (depth out) (b ∷ vs) e′ (suc k)) (sym (regrouped us)) (a-token t c (s .fine) f)))
-      (omega (arith, length-append t (close-brace ∷ []))) (rw past at there))
+      let same : annotation bs ≡ annotation t = ap annotation (s .splits) ∙ annotation-of limit t (close-brace ∷ s .rest) (s .fine) in
+      rw same (kept-or-passed (annotation t) refl)
+    where
+      regrouped : (us : List ℕ) → (t ++ close-brace ∷ []) ++ us ≡ t ++ close-brace ∷ us
+      regrouped = append-assoc t (close-brace ∷ [])
+
+      -- the whole token holds no fault, whatever is read on with
+      whole-token : (after : Plan ℕ) → ((us : List ℕ) (e k : ℕ) → Faultless limit (depth out) us e k → (m : ℕ) × Faultless limit (depth out) (b ∷ ((t ++ close-brace ∷ []) ++ us)) e m)
+          → Verdict limit at (depth out) (b ∷ bs) (then-read out after (suc (length t)))
+      whole-token after longer =
+          let there = further (suc (length t)) out after (at + suc (suc (length t))) (omega arith)
+          (omega (arith, ap length (s .splits), length-append t (close-brace ∷ s .rest))) in
+          let past : drop (suc (length t)) bs ≡ s .rest = ap (drop (suc (length t))) (s .splits) ∙ drop-token t (s .rest) in
+          let joined : (b ∷ (t ++ close-brace ∷ [])) ++ s .rest ≡ b ∷ bs = ap (b ∷_) (regrouped (s .rest) ∙ sym (s .splits)) in
+          subst (λ us. Verdict limit at (depth out) us (then-read out after (suc (length t)))) joined
+          (behind (b ∷ (t ++ close-brace ∷ [])) longer (omega (arith, length-append t (close-brace ∷ []))) (rw past at there))
+
+      kept-or-passed : (a : Bool) → annotation t ≡ a → Verdict limit at (depth out) (b ∷ bs) (then-read out (cond a here (here then token at t end)) (suc (length t)))
+      kept-or-passed true h = whole-token here (λ us e k f. (_, a-mark (an-annotation t c (s .fine) h) f))
+      kept-or-passed false h =
+          whole-token (here then token at t end)
+          (λ us e k f. (_, subst (λ vs. Faultless limit (depth out) (b ∷ vs) e (suc k)) (sym (regrouped us)) (a-token t c (record { fine = s .fine; own = h }) f)))
 
   by-class : (c : Class) → class b ≡ c → (out : Around) (here : Plan ℕ)
       → Verdict limit at (depth out) (b ∷ bs) (go-on (move limit at c bs out here) then-read)
@@ -119,7 +135,7 @@ module _ (limit at b : ℕ) (bs : List ℕ)
   by-class CLOSE c (inside l before out) here =
       behind (b ∷ []) (λ us e k f. (_, closes c f)) refl (further 0 out (before then block l here end) (at + 1) (omega arith) (omega arith))
   by-class BRACE c out here = by-token out here (token-text limit bs) c refl (token-text-finds limit bs)
-  by-class BLANK c out here = behind (b ∷ []) (λ us e k f. (_, blank c f)) refl (further 0 out here (at + 1) (omega arith) (omega arith))
+  by-class BLANK c out here = behind (b ∷ []) (λ us e k f. (_, a-mark (blank c) f)) refl (further 0 out here (at + 1) (omega arith) (omega arith))
   by-class BAD c out here = stopped [] bs b {at = at} refl nothing (bad-byte c) (omega arith)
 
 verdict : (limit : ℕ) (bs : List ℕ) (at skip : ℕ) (out : Around) (here : Plan ℕ) (from : ℕ) → from ≡ at + skip → skip ≤ length bs
@@ -140,7 +156,7 @@ whole-of : {limit from d : ℕ} {bs : List ℕ} {p : Plan ℕ} → Verdict limit
 whole-of (whole f) = (_, f)
 
 -- Item number n of a text begins at its first byte: its label is the place of that byte.
-pub item-place : (limit : ℕ) (before rest : List ℕ) (b : ℕ) {d n : ℕ} {p : Plan ℕ} → Faultless limit 0 before d n → Begins (class b)
+pub item-place : (limit : ℕ) (before rest : List ℕ) (b : ℕ) {d n : ℕ} {p : Plan ℕ} → Faultless limit 0 before d n → Begins (class b) rest
     → read-from limit 0 0 outermost end (before ++ b ∷ rest) ≡ PLAN p → (getD (labels p) n 0 ≡ length before) × (n < cells p)
 unfolding so-far pieces
 item-place limit before rest b {n = n} {p = p} f g e =
@@ -169,9 +185,9 @@ record ItemAt (limit d : ℕ) (bs : List ℕ) (n : ℕ) : Type 0 where
   deep : ℕ
   splits : bs ≡ before ++ first ∷ rest
   faultless : Faultless limit d before deep n
-  begins : Begins (class first)
+  begins : Begins (class first) rest
 
-item-here : {limit d b : ℕ} (bs : List ℕ) → Begins (class b) → ItemAt limit d (b ∷ bs) 0
+item-here : {limit d b : ℕ} (bs : List ℕ) → Begins (class b) bs → ItemAt limit d (b ∷ bs) 0
 item-here {d = d} {b = b} bs g = record { before = []; rest = bs; first = b; deep = d; splits = refl; faultless = nothing; begins = g }
 
 item-behind : {limit d d′ : ℕ} (xs : List ℕ) {bs : List ℕ} {n m : ℕ} (i : ItemAt limit d′ bs n)
@@ -189,10 +205,12 @@ item-behind xs i f =
 
 item-at : {limit d e k : ℕ} {bs : List ℕ} → Faultless limit d bs e k → (n : ℕ) → n < k → ItemAt limit d bs n
 item-at nothing n h = absurd (omega arith)
-item-at (blank {b = b} c f) n h = let i = item-at f n h in item-behind (b ∷ []) i (blank c (i .faultless))
+item-at (a-mark {b = b} {m = m} g f) n h =
+    let i = item-at f n h in
+    item-behind (b ∷ m) i (a-mark g (i .faultless))
 item-at (an-operator {bs = bs} c f) zero h = item-here bs (rw c tt)
 item-at (an-operator {b = b} c f) (suc n) h = let i = item-at f n (omega arith) in item-behind (b ∷ []) i (an-operator c (i .faultless))
-item-at (a-token t c a f) zero h = item-here _ (rw c tt)
+item-at {limit} (a-token {bs = bs} t c a f) zero h = item-here _ (rw c (annotation-of limit t (close-brace ∷ bs) (a .fine) ∙ a .own))
 item-at {limit} {d} (a-token {b = b} {bs = bs} t c a f) (suc n) h =
     let i = item-at f n (omega arith) in
     let regrouped : (us : List ℕ) → (t ++ close-brace ∷ []) ++ us ≡ t ++ close-brace ∷ us = append-assoc t (close-brace ∷ []) in

@@ -70,7 +70,7 @@ as-run-bare n quota p = go (run-plan n quota p) refl
     go (RAN e steps q) h = rw (run-relabel (λ l. tt {0}) n quota p h, cells-relabel (λ l. tt {0}) q, print-relabel (λ l. tt {0}) q)
 
 -- what a run of the saved text gives is what a run of the plan would have given
-run-saved : (n quota : ℕ) (p : Plan ℕ) → as-run (run-plan n quota (placed 0 p)) ≡ as-run (run-plan n quota p)
+pub run-saved : (n quota : ℕ) (p : Plan ℕ) → as-run (run-plan n quota (placed 0 p)) ≡ as-run (run-plan n quota p)
 run-saved n quota p = as-run-bare n quota (placed 0 p) ∙ ap (λ q. as-run (run-plan n quota q)) (bare-placed 0 p) ∙ sym (as-run-bare n quota p)
 
 gives-text : {a b : Answer} {t u : List ℕ} → GIVES a t ≡ GIVES b u → t ≡ u

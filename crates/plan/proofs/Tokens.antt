@@ -13,7 +13,7 @@ use Rattle.plan.specs.declared.Character.{Character}
 use Rattle.plan.specs.declared.Character.the-variants.{Whole, Malformed}
 use Rattle.plan.specs.Options.{under}
 use Rattle.plan.specs.Plan.{close-brace}
-use Rattle.plan.specs.Token.{character, may-hold, permits, all-permitted, allowed, before-brace, if-allowed, token-text}
+use Rattle.plan.specs.Token.{annotation, character, may-hold, permits, all-permitted, allowed, before-brace, if-allowed, token-text}
 use Rattle.plan.specs.Pieces.{Found}
 use Rattle.plan.proofs.MayHold.{closing}
 use Rattle.plan.proofs.Options.{Each, under-each}
@@ -56,6 +56,12 @@ allowed-parts limit t e =
 
 pub allowed-no-brace : (limit : ℕ) (t : List ℕ) → allowed limit t ≡ true → NoBrace t
 allowed-no-brace limit t e = no-brace-from 0 t (λ i g. omega arith) (allowed-parts limit t e .2)
+
+-- what stands behind a token's text does not tell whether it is an annotation, since the text is not empty
+pub annotation-of : (limit : ℕ) (t rest : List ℕ) → allowed limit t ≡ true → annotation (t ++ rest) ≡ annotation t
+unfolding annotation
+annotation-of limit [] rest a = absurd (omega (arith, allowed-parts limit [] a .0))
+annotation-of limit (b ∷ t) rest a = refl
 
 pub before-brace-at : (t rest : List ℕ) → NoBrace t → before-brace (t ++ close-brace ∷ rest) ≡ some t
 unfolding before-brace under

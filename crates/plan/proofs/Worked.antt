@@ -5,9 +5,9 @@ use lib.ListN.{replicate}
 use Rattle.kinds.specs.Limits.{tokenLimit}
 use Rattle.plan.specs.declared.TokenFault.the-variants.{Empty, Long, BadUtf8, Forbidden, InnerBrace}
 use Rattle.plan.specs.Plan.{_then_, cells, labels, letter, print}
-use Rattle.plan.specs.Token.{follows, scalar, value, well-formed, all-permitted, allowed, before-brace, character, if-allowed, may-hold, permits, token-text}
+use Rattle.plan.specs.Token.{annotation, follows, scalar, value, well-formed, all-permitted, allowed, before-brace, character, if-allowed, may-hold, permits, token-text}
 use Rattle.plan.specs.TokenFaults.{FirstFault, first-fault, meet, unheld}
-use Rattle.plan.specs.Reading.{class, fit, go-on, move, past-token, read, read-from}
+use Rattle.plan.specs.Reading.{OUTSIDE, class, enter, fit, go-on, leave, mark, move, past-token, read, read-from, without-marks}
 use Rattle.plan.specs.Options.{_else_, under}
 use Rattle.plan.specs.Rewriting.{after-two, first-block, inner, next, outer}
 use Rattle.plan.specs.Running.{ask, one-more, run-plan, turn}
@@ -17,12 +17,17 @@ use Rattle.plan.specs.WorkedTokens.{worked-tokens}
 use Rattle.plan.proofs.TokenFaults.{first-met}
 
 pub worked-plans : map answered worked ≡ map expected worked
-unfolding answered expected sheet run runs run-read as-run accept write read read-from go-on move past-token fit class token-text if-allowed before-brace allowed all-permitted permits may-hold character value follows scalar well-formed cells labels print letter _then_ run-plan turn ask one-more next outer inner first-block after-two under _else_ worked bytes
+unfolding answered expected sheet run runs run-read as-run accept write read read-from go-on move past-token first-fault meet unheld mark annotation fit class token-text if-allowed before-brace allowed all-permitted permits may-hold character value follows scalar well-formed cells labels print letter _then_ run-plan turn ask one-more next outer inner first-block after-two under _else_ worked bytes
 worked-plans = refl
 
 pub worked-names : map answered worked-tokens ≡ map expected worked-tokens
-unfolding worked-plans first-fault meet unheld worked-tokens
+unfolding worked-plans worked-tokens
 worked-names = refl
+
+-- Of a text SP, LF and annotations outside tokens are taken out, and nothing else.
+pub worked-marks : without-marks OUTSIDE (bytes "{&} [{x y}{&jit}\n]{y&}{&a b}{%&}") ≡ bytes "[{x y}]{y&}{%&}"
+unfolding without-marks enter leave mark annotation class bytes
+worked-marks = refl
 
 -- No row of the table of faults is empty: a token of which each is the first. The text's end, and a byte that is too many, are both 22.
 pub each-fault-stands :

@@ -21,8 +21,8 @@ use Rattle.plan.specs.Plan.{
   open-brace,
   close-brace,
 }
-use Rattle.plan.specs.Token.{allowed}
-use Rattle.plan.specs.Reading.{Around, outermost, inside, OPERATOR, OPEN, CLOSE, BRACE, BLANK, class}
+use Rattle.plan.specs.Token.{Name, allowed}
+use Rattle.plan.specs.Reading.{Around, outermost, inside, Mark, OPERATOR, OPEN, CLOSE, BRACE, class}
 
 pub data Piece (L : Type 0) : Type 0 where
   OP : L → Operator → Piece L
@@ -70,11 +70,12 @@ bares ps = relabelled (λ l. tt) ps
 -- and ps are their pieces, each labelled with its place.
 pub data Shows (limit : ℕ) : ℕ → List ℕ → List (Piece ℕ) → Type 0 where
   nothing : {at : ℕ} → Shows limit at [] []
-  blank : {at b : ℕ} {bs : List ℕ} {ps : List (Piece ℕ)} → class b ≡ BLANK → Shows limit (at + 1) bs ps → Shows limit at (b ∷ bs) ps
+  a-mark : {at b : ℕ} {m bs : List ℕ} {ps : List (Piece ℕ)}
+      → Mark limit b m → Shows limit (at + suc (length m)) bs ps → Shows limit at (b ∷ (m ++ bs)) ps
   an-operator : {at b : ℕ} {o : Operator} {bs : List ℕ} {ps : List (Piece ℕ)}
       → class b ≡ OPERATOR o → Shows limit (at + 1) bs ps → Shows limit at (b ∷ bs) (OP at o ∷ ps)
   a-token : {at b : ℕ} {bs : List ℕ} {ps : List (Piece ℕ)} (t : List ℕ)
-      → class b ≡ BRACE → allowed limit t ≡ true → Shows limit (at + (length t + 2)) bs ps
+      → class b ≡ BRACE → Name limit t → Shows limit (at + (length t + 2)) bs ps
       → Shows limit at (b ∷ (t ++ close-brace ∷ bs)) (TOKEN at t ∷ ps)
   opens : {at b : ℕ} {bs : List ℕ} {ps : List (Piece ℕ)} → class b ≡ OPEN → Shows limit (at + 1) bs ps → Shows limit at (b ∷ bs) (BEGIN at ∷ ps)
   closes : {at b : ℕ} {bs : List ℕ} {ps : List (Piece ℕ)} → class b ≡ CLOSE → Shows limit (at + 1) bs ps → Shows limit at (b ∷ bs) (END ∷ ps)

@@ -1,11 +1,11 @@
 -- Reading a text: the plan, each item labelled with the place of its first byte, or the refusal. Document 01, the table
--- of bytes and refusals 13 to 17, and the faults of a token.
+-- of bytes and refusals 13 to 17, and the faults of a token; annotations mean nothing by request 2 of document 02.
 use Prim.Native.Nat.{ℕ, zero, suc, _+_, _-_}
 use mathlib.Core.Path.{_≡_}
 use mathlib.Core.Logic.{_≢_, _⊎_}
-use mathlib.Core.Bool.{Bool, true, false, cond, not, _||_}
+use mathlib.Core.Bool.{Bool, true, false, cond}
 use mathlib.Core.Option.{Option, none, some}
-use mathlib.Core.List.{List, [], _∷_}
+use mathlib.Core.List.{List, [], _∷_, _++_}
 use lib.ListN.{length, getD}
 use lib.Dec.{leb, eqb}
 use Rattle.kinds.specs.declared.Place.{Place}
@@ -33,7 +33,7 @@ use Rattle.plan.specs.Plan.{
   open-brace,
   close-brace,
 }
-use Rattle.plan.specs.Token.{token-text}
+use Rattle.plan.specs.Token.{allowed, ampersand, annotation, token-text}
 use Rattle.plan.specs.TokenFaults.{Met, first-fault}
 pub use Rattle.plan.specs.declared.Class.{Class}
 pub use Rattle.plan.specs.declared.Class.the-variants.{
@@ -70,6 +70,21 @@ Byte BRACE b = b ≡ open-brace
 Byte BLANK b = (b ≡ 32) ⊎ (b ≡ 10)
 Byte BAD b = ((o : Operator) → b ≢ letter o) × (b ≢ open-bracket) × (b ≢ close-bracket) × (b ≢ open-brace) × (b ≢ 32) × (b ≢ 10)
 
+-- What means nothing outside tokens is a mark: SP, LF, or an annotation. The class of its first byte and the bytes behind that one tell
+-- it, since those behind a `{` start as the token's text does.
+unfoldable pub mark : Class → (rest : List ℕ) → Bool
+mark (OPERATOR o) rest = false
+mark OPEN rest = false
+mark CLOSE rest = false
+mark BRACE rest = annotation rest
+mark BLANK rest = true
+mark BAD rest = false
+
+-- a whole mark: the bytes behind its first
+pub data Mark (limit b : ℕ) : List ℕ → Type 0 where
+  blank : class b ≡ BLANK → Mark limit b []
+  an-annotation : (t : List ℕ) → class b ≡ BRACE → allowed limit t ≡ true → annotation t ≡ true → Mark limit b (t ++ close-brace ∷ [])
+
 -- The blocks that are open where the reader stands, the innermost first: each with its place and with what stands
 -- before it in its own sequence.
 pub data Around : Type 0 where
@@ -88,7 +103,7 @@ faulty-token at m = BadToken (m .fault) (place (suc at + m .byte))
 
 unfoldable pub past-token : (limit at : ℕ) → List ℕ → Option (List ℕ) → Around → Plan ℕ → Move
 past-token limit at rest none out here = STOP (faulty-token at (first-fault 0 (limit - 2) 0 rest))
-past-token limit at rest (some t) out here = ON out (here then token at t end) (suc (length t))
+past-token limit at rest (some t) out here = ON out (cond (mark BRACE rest) here (here then token at t end)) (suc (length t))
 
 unfoldable pub move : (limit at : ℕ) → Class → List ℕ → Around → Plan ℕ → Move
 move limit at (OPERATOR o) rest out here = ON out (here then operator at o end) 0
@@ -123,11 +138,28 @@ fit n (PLAN p) = cond (leb (cells p) n) (PLAN p) (REFUSED (Overfull (place (getD
 unfoldable pub read : (limit n : ℕ) → List ℕ → Reading
 read limit n text = fit n (read-from limit 0 0 outermost end text)
 
--- the text with SP and LF outside tokens taken out
-unfoldable pub without-blanks : (in-token : Bool) → List ℕ → List ℕ
-without-blanks in-token [] = []
-without-blanks true (b ∷ bs) = b ∷ without-blanks (not (eqb b close-brace)) bs
-without-blanks false (b ∷ bs) =
-    let rest = without-blanks false bs in
-    let kept = b ∷ without-blanks (eqb b open-brace) bs in
-    cond (eqb b 32 || eqb b 10) rest kept
+-- the regions of a text, by the byte that comes next: outside tokens, in a token that is kept, or in an annotation
+pub data Region : Type 0 where
+  OUTSIDE : Region
+  IN-TOKEN : Region
+  IN-ANNOTATION : Region
+
+unfoldable pub enter : (b : ℕ) → Region → Region
+enter b s = cond (eqb b open-brace) s OUTSIDE
+
+unfoldable pub leave : (b : ℕ) → Region → Region
+leave b s = cond (eqb b close-brace) OUTSIDE s
+
+-- the text with its marks taken out: SP, LF and annotations outside tokens
+unfoldable pub without-marks : Region → List ℕ → List ℕ
+without-marks s [] = []
+without-marks OUTSIDE (b ∷ bs) =
+    let passed = without-marks (enter b IN-ANNOTATION) bs in
+    let kept = b ∷ without-marks (enter b IN-TOKEN) bs in
+    cond (mark (class b) bs) passed kept
+without-marks IN-TOKEN (b ∷ bs) = b ∷ without-marks (leave b IN-TOKEN) bs
+without-marks IN-ANNOTATION (b ∷ bs) = without-marks (leave b IN-ANNOTATION) bs
+
+-- an annotation stands somewhere in the bytes: a `&` comes right behind a `{`
+abbrev pub HoldsAnnotation : List ℕ → Type 0
+HoldsAnnotation bs = (before : List ℕ) × (rest : List ℕ) × (bs ≡ before ++ open-brace ∷ ampersand ∷ rest)

@@ -1,7 +1,7 @@
 -- The table's rows 11 to 17, with 21 to 25 for 14, "given exactly when" and "place", said of the text itself and not of a reader.
 use Prim.Native.Nat.{ℕ, suc, _+_, _≤_, _<_}
 use mathlib.Core.Path.{_≡_}
-use mathlib.Core.Bool.{true}
+use mathlib.Core.Bool.{false}
 use mathlib.Core.List.{List, [], _∷_, _++_}
 use lib.ListN.{length}
 use Rattle.plan.specs.declared.Refusal.{Refusal}
@@ -10,20 +10,20 @@ use Rattle.plan.specs.declared.TokenFault.{TokenFault}
 use Rattle.plan.specs.declared.TextFault.{TextFault}
 use Rattle.plan.specs.declared.TextFault.the-variants.{TooLong, BadByte, BadToken, Unmatched, Unclosed}
 use Rattle.plan.specs.Plan.{Operator, close-brace}
-use Rattle.plan.specs.Token.{allowed}
+use Rattle.plan.specs.Token.{Name, annotation}
 use Rattle.plan.specs.TokenFaults.{FirstFault}
 use Rattle.plan.specs.Services.{Limits}
-use Rattle.plan.specs.Reading.{Class, OPERATOR, OPEN, CLOSE, BRACE, BLANK, BAD, class, place}
+use Rattle.plan.specs.Reading.{Class, OPERATOR, OPEN, CLOSE, BRACE, BLANK, BAD, Mark, class, place}
 
 -- `Faultless limit d bs e k`: the bytes hold no fault where d blocks are open before them; e are open after them, and
 -- k items begin among them.
 pub data Faultless (limit : ℕ) : ℕ → List ℕ → ℕ → ℕ → Type 0 where
   nothing : {d : ℕ} → Faultless limit d [] d 0
-  blank : {d e k b : ℕ} {bs : List ℕ} → class b ≡ BLANK → Faultless limit d bs e k → Faultless limit d (b ∷ bs) e k
+  a-mark : {d e k b : ℕ} {m bs : List ℕ} → Mark limit b m → Faultless limit d bs e k → Faultless limit d (b ∷ (m ++ bs)) e k
   an-operator : {d e k b : ℕ} {o : Operator} {bs : List ℕ}
       → class b ≡ OPERATOR o → Faultless limit d bs e k → Faultless limit d (b ∷ bs) e (suc k)
   a-token : {d e k b : ℕ} {bs : List ℕ} (t : List ℕ)
-      → class b ≡ BRACE → allowed limit t ≡ true → Faultless limit d bs e k
+      → class b ≡ BRACE → Name limit t → Faultless limit d bs e k
       → Faultless limit d (b ∷ (t ++ close-brace ∷ bs)) e (suc k)
   opens : {d e k b : ℕ} {bs : List ℕ}
       → class b ≡ OPEN → Faultless limit (suc d) bs e k → Faultless limit d (b ∷ bs) e (suc k)
@@ -36,14 +36,14 @@ pub data Fault (limit at : ℕ) (b : ℕ) (rest : List ℕ) : ℕ → TextFault 
   bad-token : {d i : ℕ} {f : TokenFault} → class b ≡ BRACE → FirstFault limit rest i f → Fault limit at b rest d (BadToken f (place (suc at + i)))
   unmatched : class b ≡ CLOSE → Fault limit at b rest 0 (Unmatched (place at))
 
--- the classes of an item's first byte
-abbrev pub Begins : Class → Type 0
-Begins (OPERATOR o) = Unit {0}
-Begins OPEN = Unit {0}
-Begins CLOSE = ⊥
-Begins BRACE = Unit {0}
-Begins BLANK = ⊥
-Begins BAD = ⊥
+-- the classes of an item's first byte, with the bytes behind it: an annotation is no item
+abbrev pub Begins : Class → (rest : List ℕ) → Type 0
+Begins (OPERATOR o) rest = Unit {0}
+Begins OPEN rest = Unit {0}
+Begins CLOSE rest = ⊥
+Begins BRACE rest = annotation rest ≡ false
+Begins BLANK rest = ⊥
+Begins BAD rest = ⊥
 
 -- the first fault; else the end in an open block; else the first item past n
 pub data Row (limit n : ℕ) (text : List ℕ) : Refusal → Type 0 where
@@ -52,7 +52,7 @@ pub data Row (limit n : ℕ) (text : List ℕ) : Refusal → Type 0 where
       → Row limit n text (Text f)
   unclosed : {d k : ℕ} → Faultless limit 0 text (suc d) k → Row limit n text (Text (Unclosed (place (length text))))
   overfull : (before rest : List ℕ) (b : ℕ) {d k : ℕ}
-      → text ≡ before ++ b ∷ rest → Faultless limit 0 before d n → Begins (class b) → Faultless limit 0 text 0 k
+      → text ≡ before ++ b ∷ rest → Faultless limit 0 before d n → Begins (class b) rest → Faultless limit 0 text 0 k
       → Row limit n text (Overfull (place (length before)))
 
 -- the rows 11 and 12 stand before those of the text

@@ -1,4 +1,5 @@
--- What a token may hold: document 01, "A token runs from `{` ..". Characters are those of RFC 3629, section 3.
+-- What a token may hold: document 01, "A token runs from `{` ..". Characters are those of RFC 3629, section 3. Then which tokens are
+-- annotations: request 2 of document 02.
 use Prim.Native.Nat.{ℕ, zero, suc, _+_, _*_, _-_}
 use mathlib.Core.Path.{_≡_}
 use mathlib.Core.Bool.{Bool, true, false, cond, not, _&&_, _||_}
@@ -72,9 +73,23 @@ if-allowed limit (some t) = cond (allowed limit t) (some t) none
 unfoldable pub token-text : (limit : ℕ) → List ℕ → Option (List ℕ)
 token-text limit bs = if-allowed limit (before-brace bs)
 
--- a plan whose tokens are allowed, at any depth
+-- the byte `&`
+abbrev pub ampersand : ℕ
+ampersand = 38
+
+-- a token whose text starts with `&` is an annotation
+unfoldable pub annotation : List ℕ → Bool
+annotation [] = false
+annotation (b ∷ bs) = eqb b ampersand
+
+-- a plan's own token, a name: it is allowed, and no annotation
+pub record Name (limit : ℕ) (t : List ℕ) : Type 0 where
+  pub fine : allowed limit t ≡ true
+  pub own : annotation t ≡ false
+
+-- a plan whose tokens are names, at any depth
 abbrev pub Allowed : {L : Type 0} → (limit : ℕ) → Plan L → Type 0
 Allowed limit end = Unit {0}
 Allowed limit (operator l o p) = Allowed limit p
-Allowed limit (token l t p) = (allowed limit t ≡ true) × Allowed limit p
+Allowed limit (token l t p) = Name limit t × Allowed limit p
 Allowed limit (block l b p) = Allowed limit b × Allowed limit p

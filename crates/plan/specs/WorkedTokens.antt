@@ -1,9 +1,10 @@
 -- Tokens that are read, and each fault of request 1 at each place where it can stand: at the token's second, 62nd, 63rd and 64th byte, the
--- text's end there too, with characters of one to four bytes; and where two faults meet.
+-- text's end there too, with characters of one to four bytes; and where two faults meet. Then annotations, which have the same faults.
 use Prim.Native.Nat.{ℕ, _-_}
 use mathlib.Core.List.{List, [], _∷_, _++_}
 use lib.ListN.{length, replicate}
 use Rattle.plan.specs.Plan.{open-brace, close-brace}
+use Rattle.plan.specs.Token.{ampersand}
 use Rattle.plan.specs.Worked.{WorkedRow, bytes, five}
 
 -- a text that begins with a token of which these are the bytes from number n on, counted from 1; x stands before them
@@ -99,5 +100,19 @@ meeting-rows =
     refused (bytes "]{}") 15 0 ∷ refused (bytes "#{}") 13 0 ∷ refused (bytes "{x]") 22 3 ∷ refused (bytes "{x#") 22 3 ∷
     refused (bytes "[{}") 21 2 ∷ refused (bytes "{x}b{}") 21 5 ∷ []
 
+-- an annotation of which these are the bytes from number n on, counted from 1; x stands before them, behind the `&`
+abbrev annotated : (n : ℕ) → List ℕ → List ℕ
+annotated n bs = open-brace ∷ ampersand ∷ (replicate (n - 3) 0x78 ++ bs)
+
+-- a text is read as the empty plan
+abbrev is-nothing : List ℕ → WorkedRow
+is-nothing text = record { text = text; quota = 0; cells = 0; numbers = five 0 0 0 0 0; printed = [] }
+
+abbrev annotation-rows : List WorkedRow
+annotation-rows =
+    is-nothing (annotated 3 (close-brace ∷ [])) ∷ is-nothing (annotated 64 (close-brace ∷ [])) ∷ refused (annotated 65 (close-brace ∷ [])) 22 63 ∷
+    refused (annotated 3 []) 22 2 ∷ refused (annotated 3 (0x80 ∷ close-brace ∷ [])) 23 2 ∷ refused (annotated 3 (0x1F ∷ close-brace ∷ [])) 24 2 ∷
+    refused (annotated 3 (open-brace ∷ close-brace ∷ [])) 25 2 ∷ []
+
 unfoldable pub worked-tokens : List WorkedRow
-worked-tokens = empty-rows ++ ended-rows ++ full-rows ++ utf8-rows ++ forbidden-rows ++ brace-rows ++ meeting-rows
+worked-tokens = empty-rows ++ ended-rows ++ full-rows ++ utf8-rows ++ forbidden-rows ++ brace-rows ++ meeting-rows ++ annotation-rows

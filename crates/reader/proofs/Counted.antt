@@ -24,7 +24,7 @@ use Rattle.plan.specs.declared.Character.{Character}
 use Rattle.plan.specs.declared.Character.the-variants.{Whole, Malformed}
 use Rattle.plan.specs.declared.Refusal.the-variants.{Text, Overfull}
 use Rattle.plan.specs.declared.TextFault.the-variants.{BadByte, Unmatched, Unclosed}
-use Rattle.reader.specs.Counting.{nothing-yet, one-item, opened, closed, stepped, faulty, in-character, in-token, finished}
+use Rattle.reader.specs.Counting.{nothing-yet, one-item, opened, closed, stepped, kept-or-passed, faulty, in-character, in-token, finished}
 use Rattle.reader.specs.declared.Count.{Count}
 use Rattle.plan.specs.declared.TokenFault.{TokenFault}
 use Rattle.plan.specs.declared.TokenFault.the-variants.{Empty, Long, BadUtf8, Forbidden, InnerBrace}
@@ -92,6 +92,14 @@ module _ (n : Count) (at room : ℕ) where
   pub end-within : n .depth ≤ 0 → n .cells ≤ room → Accepted (n .cells) (n .length) ≡ finished n at room
   unfolding finished
   end-within h g = rw (le-ltb 0 (n .depth) h, le-ltb room (n .cells) g)
+
+-- whether a mark was read, as the code found it, s, is as the text has it, t
+module _ (n : Count) (at room bytes : ℕ) {s t : Bool} (e : s ≡ t) where
+  pub token-passed : s ≡ true → n ≡ kept-or-passed t n at room bytes
+  token-passed h = ap (λ x. kept-or-passed x n at room bytes) (sym h ∙ e)
+
+  pub token-counted : (m : Count) → s ≡ false → m ≡ one-item n at room bytes → m ≡ kept-or-passed t n at room bytes
+  token-counted m h g = g ∙ ap (λ x. kept-or-passed x n at room bytes) (sym h ∙ e)
 
 pub faulty-told : (f : TokenFault) (p : Place) (at : ℕ) → p .0 ≡ at → Ends (Faulty f p) ≡ faulty f at
 faulty-told f p at h = ap (λ k. faulty f k) h

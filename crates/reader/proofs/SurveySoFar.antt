@@ -4,7 +4,7 @@ use Prim.Native.Nat.{ℕ, suc, _+_, _-_, _≤_, _<_}
 use mathlib.Core.Path.{_≡_, refl, ap, ap₂, sym, _∙_, subst}
 use mathlib.Core.Bool.{Bool, true, false, cond}
 use mathlib.Core.Logic.{_≢_}
-use mathlib.Core.List.{List, [], _∷_, _++_}
+use mathlib.Core.List.{List, [], _∷_, _++_, append-nil}
 use native.Mathlib.Omega.{arith}
 use native.Mathlib.Nat.{add-zero}
 use native.Mathlib.Numerals.{add-one}
@@ -14,16 +14,16 @@ use lib.Seq.{take-all, split-at, length-take-le}
 use borrow.Author.Tests.{eqb-true, eqb-false, ltb-true, ltb-false}
 use Rattle.kinds.specs.Limits.{textLimit, tokenLimit}
 use Rattle.plan.specs.Plan.{cells}
-use Rattle.plan.specs.Reading.{class, place, read, without-blanks}
+use Rattle.plan.specs.Reading.{Mark, blank, OUTSIDE, class, place, read, without-marks}
 use Rattle.plan.specs.declared.Class.{Class}
 use Rattle.plan.specs.declared.Class.the-variants.{Operator as OPERATOR, Open as OPEN, Close as CLOSE, Brace as BRACE, Blank as BLANK, Bad as BAD}
-use Rattle.plan.specs.Refusals.{Faultless, nothing, blank, an-operator, opens, closes, Fault, bad-byte, unmatched, Begins, fault, unclosed, overfull}
+use Rattle.plan.specs.Refusals.{Faultless, nothing, a-mark, an-operator, opens, closes, Fault, bad-byte, unmatched, Begins, fault, unclosed, overfull}
 use Rattle.plan.specs.declared.Refusal.the-variants.{Text, Overfull}
 use Rattle.plan.specs.declared.TextFault.{TextFault}
 use Rattle.plan.specs.declared.TextFault.the-variants.{Unmatched, Unclosed}
-use Rattle.plan.proofs.Blanks.{kept, dropped}
+use Rattle.plan.proofs.Marks.{kept, mark-dropped}
 use Rattle.plan.proofs.Classes.{clash}
-use Rattle.plan.proofs.Faultless.{take-one, faultless-then, blanks-then, faultless-bounds, without-blanks-length}
+use Rattle.plan.proofs.Faultless.{take-one, faultless-then, marks-then, faultless-bounds, without-marks-length}
 use Rattle.plan.proofs.Reached.{TextRead, text-read, text-fits}
 use Rattle.plan.proofs.Refusals.{row-refused}
 use Rattle.reader.specs.Counting.{Small, nothing-yet, one-item, closed, stepped, finished, surveyed}
@@ -35,14 +35,14 @@ use Rattle.reader.specs.declared.Surveyed.the-variants.{Accepted, Refuse
 pub record PastAt (text : List ℕ) (room first at : ℕ) : Type 0 where
   pub deep : ℕ
   pub clean : Faultless tokenLimit 0 (take first text) deep room
-  pub begins : Begins (class (getD text first 0))
+  pub begins : Begins (class (getD text first 0)) (drop (suc first) text)
   pub before : first < at
 
 pub record SurveySoFar (text : List ℕ) (room : ℕ) (n : Count) (at : ℕ) : Type 0 where
   pub short : length text ≤ textLimit
   pub within : at ≤ length text
   pub clean : Faultless tokenLimit 0 (take at text) (n .depth) (n .cells)
-  pub keeps : length (without-blanks false (take at text)) ≡ n .length
+  pub keeps : length (without-marks OUTSIDE (take at text)) ≡ n .length
   pub past : room < n .cells → PastAt text room (n .past .0) at
 
 pub survey-small : {text : List ℕ} {room at : ℕ} {n : Count} → SurveySoFar text room n at → Small n
@@ -51,7 +51,7 @@ survey-small {text} {room} {at} g =
     record {
       depth = omega (arith, faultless-bounds (g .clean), g .within, g .short);
       cells = omega (arith, faultless-bounds (g .clean), g .within, g .short);
-      length = omega (arith, without-blanks-length false (take at text), g .keeps, g .within, g .short);
+      length = omega (arith, without-marks-length OUTSIDE (take at text), g .keeps, g .within, g .short);
     }
 
 -- the same with a further piece that holds no fault
@@ -60,11 +60,11 @@ module _ {text : List ℕ} {room at : ℕ} {n : Count} (g : SurveySoFar text roo
   cleaner : {d k : ℕ} → Faultless tokenLimit (n .depth) piece d k → Faultless tokenLimit 0 (take at′ text) d (n .cells + k)
   cleaner f = rw joined (faultless-then (g .clean) f)
 
-  keeping : length (without-blanks false (take at′ text)) ≡ n .length + length (without-blanks false piece)
+  keeping : length (without-marks OUTSIDE (take at′ text)) ≡ n .length + length (without-marks OUTSIDE piece)
   keeping =
-      ap (λ us. length (without-blanks false us)) joined ∙ ap length (blanks-then (g .clean) piece)
-      ∙ length-append (without-blanks false (take at text)) (without-blanks false piece)
-      ∙ ap (_+ length (without-blanks false piece)) (g .keeps)
+      ap (λ us. length (without-marks OUTSIDE us)) joined ∙ ap length (marks-then (g .clean) piece)
+      ∙ length-append (without-marks OUTSIDE (take at text)) (without-marks OUTSIDE piece)
+      ∙ ap (_+ length (without-marks OUTSIDE piece)) (g .keeps)
 
   still-past : room < n .cells → PastAt text room (n .past .0) at′
   still-past h =
@@ -72,7 +72,7 @@ module _ {text : List ℕ} {room at : ℕ} {n : Count} (g : SurveySoFar text roo
       record { deep = p .deep; clean = p .clean; begins = p .begins; before = omega (arith, p .before) }
 
   -- no item begins in the piece
-  same-items : (d kept-bytes : ℕ) → Faultless tokenLimit (n .depth) piece d 0 → length (without-blanks false piece) ≡ kept-bytes
+  same-items : (d kept-bytes : ℕ) → Faultless tokenLimit (n .depth) piece d 0 → length (without-marks OUTSIDE piece) ≡ kept-bytes
       → SurveySoFar text room (record { depth = d; cells = n .cells; length = n .length + kept-bytes; past = n .past }) at′
   same-items d kept-bytes f k =
       record {
@@ -83,9 +83,19 @@ module _ {text : List ℕ} {room at : ℕ} {n : Count} (g : SurveySoFar text roo
         past = still-past;
       }
 
+  -- a mark is passed over
+  pub mark-more : (b : ℕ) (m : List ℕ) → piece ≡ b ∷ m → Mark tokenLimit b m → SurveySoFar text room n at′
+  unfolding without-marks
+  mark-more b m is h =
+      let counted : Count → ℕ → Count = λ n l. record { depth = n .depth; cells = n .cells; length = l; past = n .past } in
+      let whole : b ∷ (m ++ []) ≡ piece = ap (b ∷_) (append-nil m) ∙ sym is in
+      subst (λ x. SurveySoFar text room x at′) (ap (counted n) (add-zero (n .length)))
+      (same-items (n .depth) 0 (subst (λ us. Faultless tokenLimit (n .depth) us (n .depth) 0) whole (a-mark h nothing))
+      (ap (λ us. length (without-marks OUTSIDE us)) (sym whole) ∙ ap length (mark-dropped [] h)))
+
   -- one item begins, with the piece
-  pub item-more : (d bytes : ℕ) → Faultless tokenLimit (n .depth) piece d 1 → length (without-blanks false piece) ≡ bytes
-      → Begins (class (getD text at 0))
+  pub item-more : (d bytes : ℕ) → Faultless tokenLimit (n .depth) piece d 1 → length (without-marks OUTSIDE piece) ≡ bytes
+      → Begins (class (getD text at 0)) (drop (suc at) text)
       → SurveySoFar text room (record { depth = d; cells = n .cells + 1; length = n .length + bytes; past = one-item n at room bytes .past }) at′
   item-more d bytes f k begins =
       record {
@@ -102,7 +112,7 @@ module _ {text : List ℕ} {room at : ℕ} {n : Count} (g : SurveySoFar text roo
       go false e h = still-past (let differ : n .cells ≢ room = eqb-false (n .cells) room e in omega arith)
 
 pub survey-start : (text : List ℕ) (room : ℕ) (n : Count) → length text ≤ textLimit → n ≡ nothing-yet → SurveySoFar text room n 0
-unfolding without-blanks
+unfolding without-marks
 survey-start text room n short e =
     subst (λ m. SurveySoFar text room m 0) (sym e)
     (record {
@@ -134,15 +144,15 @@ module _ {text : List ℕ} {room at : ℕ} {n : Count} (g : SurveySoFar text roo
   here = getD text at 0
 
   on-by-class : (k : Class) → class here ≡ k → (m : Count) → stepped n k at room ≡ On m → SurveySoFar text room m (at + 1)
-  unfolding stepped
+  unfolding stepped without-marks
   on-by-class (OPERATOR o) c m e =
       subst (λ x. SurveySoFar text room x (at + 1)) (on-injective e)
       (item-more g (here ∷ []) (at + 1) (take-one text at inside) (omega arith) (omega arith) (n .depth) 1 (an-operator c nothing)
-      (ap length (kept here (λ z. clash (sym c ∙ z) tt))) (rw c tt))
+      (ap length (kept here [] (λ z. clash (sym c ∙ z) tt) (λ z. clash (sym c ∙ z) tt))) (rw c tt))
   on-by-class OPEN c m e =
       subst (λ x. SurveySoFar text room x (at + 1)) (on-injective e)
       (item-more g (here ∷ []) (at + 1) (take-one text at inside) (omega arith) (omega arith) (n .depth + 1) 1 (rw add-one (opens c nothing))
-      (ap length (kept here (λ z. clash (sym c ∙ z) tt))) (rw c tt))
+      (ap length (kept here [] (λ z. clash (sym c ∙ z) tt) (λ z. clash (sym c ∙ z) tt))) (rw c tt))
   on-by-class CLOSE c m e = go (eqb (n .depth) 0) refl e
     where
       go : (t : Bool) → eqb (n .depth) 0 ≡ t → cond t (Stop (Unmatched (place at))) (On (closed n)) ≡ On m → SurveySoFar text room m (at + 1)
@@ -153,12 +163,11 @@ module _ {text : List ℕ} {room at : ℕ} {n : Count} (g : SurveySoFar text roo
           subst (λ x. SurveySoFar text room x (at + 1)) (on-injective e)
           (same-items g (here ∷ []) (at + 1) (take-one text at inside) (omega arith) (omega arith) (n .depth - 1) 1
           (subst (λ d. Faultless tokenLimit d (here ∷ []) (n .depth - 1) 0) (sym deep) (closes c nothing))
-          (ap length (kept here (λ z. clash (sym c ∙ z) tt))))
+          (ap length (kept here [] (λ z. clash (sym c ∙ z) tt) (λ z. clash (sym c ∙ z) tt))))
   on-by-class BRACE c m e = token-is-not-on e
   on-by-class BLANK c m e =
-      let counted : Count → ℕ → Count = λ m l. record { depth = m .depth; cells = m .cells; length = l; past = m .past } in
-      subst (λ x. SurveySoFar text room x (at + 1)) (ap (counted n) (add-zero (n .length)) ∙ on-injective e)
-      (same-items g (here ∷ []) (at + 1) (take-one text at inside) (omega arith) (omega arith) (n .depth) 0 (blank c nothing) (ap length (dropped here c)))
+      subst (λ x. SurveySoFar text room x (at + 1)) (on-injective e)
+      (mark-more g (here ∷ []) (at + 1) (take-one text at inside) (omega arith) (omega arith) here [] refl (blank c))
   on-by-class BAD c m e = stop-is-not-on e
 
   -- one byte that is no fault
@@ -193,7 +202,7 @@ module _ {text : List ℕ} {room at : ℕ} {n : Count} (g : SurveySoFar text roo
   pub survey-stop : (r : TextFault) → Stop r ≡ stepped n (class here) at room → Refused (Text r) ≡ surveyed (read tokenLimit room text)
   survey-stop r e = stop-by-class (class here) refl r (sym e)
 
-accepted : {limit k l : ℕ} {text : List ℕ} (room : ℕ) (t : TextRead limit text k) → k ≤ room → length (without-blanks false text) ≡ l
+accepted : {limit k l : ℕ} {text : List ℕ} (room : ℕ) (t : TextRead limit text k) → k ≤ room → length (without-marks OUTSIDE text) ≡ l
     → Accepted k l ≡ surveyed (read limit room text)
 unfolding surveyed
 accepted room t h e = rw (text-fits room t h) (sym (ap₂ Accepted (t .counted) (ap length (t .printed) ∙ e)))
@@ -227,4 +236,4 @@ survey-end {text} {room} {at} {n} g ended = go (ltb 0 (n .depth)) refl (ltb room
         (overfull (take first text) (drop (suc first) text) (getD text first 0) (split-at text first 0 inside) (p .clean) (p .begins) (none-open h)))
         (ap (λ k. Refused (Overfull (place k))) (sym (length-take-le first text (omega arith))))
     go false h false g′ =
-        accepted room (text-read (none-open h)) (ltb-false room (n .cells) g′) (ap (λ us. length (without-blanks false us)) (sym (take-all at text ended)) ∙ g .keeps)
+        accepted room (text-read (none-open h)) (ltb-false room (n .cells) g′) (ap (λ us. length (without-marks OUTSIDE us)) (sym (take-all at text ended)) ∙ g .keeps)

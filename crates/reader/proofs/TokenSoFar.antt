@@ -6,6 +6,7 @@ use mathlib.Core.Bool.{Bool, true, false, cond}
 use mathlib.Core.Logic.{_≢_}
 use mathlib.Core.List.{List, [], _∷_, _++_, append-assoc}
 use native.Mathlib.Nat.{add-zero}
+use native.Mathlib.Numerals.{add-one}
 use native.Mathlib.Omega.{arith}
 use lib.Dec.{eqb, leb}
 use lib.ListN.{length, getD, take, drop, length-append, length-drop, take-append-drop, drop-of-length-le}
@@ -14,9 +15,9 @@ use borrow.Author.Tests.{eqb-true, eqb-false, leb-true, leb-false}
 use Rattle.kinds.specs.Limits.{tokenLimit}
 use Rattle.kinds.specs.declared.Place.{Place}
 use Rattle.plan.specs.Plan.{open-brace, close-brace}
-use Rattle.plan.specs.Token.{allowed, character, may-hold}
+use Rattle.plan.specs.Token.{Name, allowed, annotation, character, may-hold}
 use Rattle.plan.specs.TokenFaults.{FirstFault, unheld}
-use Rattle.plan.specs.Reading.{class, place, read, without-blanks}
+use Rattle.plan.specs.Reading.{an-annotation, class, mark, place, read, without-marks}
 use Rattle.plan.specs.declared.Class.{Class}
 use Rattle.plan.specs.declared.Class.the-variants.{Operator as OPERATOR, Open as OPEN, Close as CLOSE, Brace as BRACE, Blank as BLANK, Bad as BAD}
 use Rattle.plan.specs.Refusals.{nothing, a-token, bad-token}
@@ -26,8 +27,7 @@ use Rattle.plan.specs.declared.Refusal.the-variants.{Text}
 use Rattle.plan.specs.declared.TextFault.the-variants.{BadToken, Unmatched}
 use Rattle.plan.specs.declared.TokenFault.{TokenFault}
 use Rattle.plan.specs.declared.TokenFault.the-variants.{Empty, Long, BadUtf8, Forbidden, InnerBrace}
-use Rattle.plan.proofs.Blanks.{token-kept}
-use Rattle.plan.proofs.Classes.{class-byte}
+use Rattle.plan.proofs.Marks.{token-kept}
 use Rattle.plan.proofs.MayHold.{opening}
 use Rattle.plan.proofs.Taken.{Taken, none-yet, scanned-step, scanned-allowed}
 use Rattle.plan.proofs.TokenFaults.{
@@ -42,16 +42,17 @@ use Rattle.plan.proofs.TokenFaults.{
   unheld-first,
 }
 use Rattle.plan.proofs.Tests.{never}
-use Rattle.plan.proofs.Tokens.{allowed-no-brace}
+use Rattle.plan.proofs.Tokens.{annotation-of}
 use Rattle.plan.proofs.Utf8.{character-width}
-use Rattle.reader.specs.Counting.{closed, faulty, in-character, in-token, one-item, stepped, surveyed}
+use Rattle.text.specs.TokenEnds.{TokenEnds}
+use Rattle.reader.specs.Counting.{closed, faulty, in-character, in-token, kept-or-passed, stepped, surveyed}
 use Rattle.reader.specs.declared.Count.{Count}
 use Rattle.reader.specs.declared.InToken.{InToken}
 use Rattle.reader.specs.declared.InToken.the-variants.{Further, Ends}
 use Rattle.reader.specs.declared.TokenRead.the-variants.{Whole as WholeToken, Faulty}
 use Rattle.reader.specs.declared.ByteStep.the-variants.{On, Token, Stop}
 use Rattle.reader.specs.declared.Surveyed.the-variants.{Refused}
-use Rattle.reader.proofs.SurveySoFar.{SurveySoFar, item-more, refused-here, token-is-not-on, token-is-not-stop}
+use Rattle.reader.proofs.SurveySoFar.{SurveySoFar, item-more, mark-more, refused-here, token-is-not-on, token-is-not-stop}
 
 -- what an answer says of the next byte of the token whose `{` is at `start`
 data NextSays (limit start at : ℕ) (text : List ℕ) : InToken → Type 0 where
@@ -275,19 +276,42 @@ module _ {text : List ℕ} {room at end : ℕ} {n : Count} (i′ : TokenSoFar te
         length-take-le at text (omega (arith, i′ .starts)),
       ))
 
-  whole-token : end < length text → drop end text ≡ close-brace ∷ drop (suc end) text → allowed tokenLimit (part text at end) ≡ true
-      → SurveySoFar text room (one-item n at room (end + 1 - at)) (end + 1)
-  unfolding without-blanks
-  whole-token inside e fine =
-      item-more (i′ .survey) piece (end + 1) (joined e) (omega (arith, i′ .ahead)) (omega arith) (n .depth) (end + 1 - at)
-      (a-token (part text at end) (i′ .brace) fine nothing)
-      (ap length (token-kept (getD text at 0) (part text at end) [] (rw (i′ .brace) at (class-byte (getD text at 0))) (allowed-no-brace tokenLimit (part text at end) fine))
-      ∙ omega (arith, length-append (part text at end) (close-brace ∷ []), taken, i′ .ahead))
-      (rw (i′ .brace) tt)
+  -- the bytes behind the `{` tell whether it is an annotation
+  told-behind : allowed tokenLimit (part text at end) ≡ true → annotation (drop (suc at) text) ≡ annotation (part text at end)
+  told-behind fine = ap annotation bytes-after ∙ annotation-of tokenLimit (part text at end) (drop end text) fine
 
-  pub inside-close : (m : Count) → Ends WholeToken ≡ in-token tokenLimit at end text → m ≡ one-item n at room (end + 1 - at)
-      → (end < length text) × SurveySoFar text room m (end + 1)
+  -- it is passed over, or an item
+  whole-token : end < length text → drop end text ≡ close-brace ∷ drop (suc end) text → allowed tokenLimit (part text at end) ≡ true
+      → (is-mark : Bool) → annotation (part text at end) ≡ is-mark → SurveySoFar text room (kept-or-passed is-mark n at room (end + 1 - at)) (end + 1)
+  unfolding without-marks
+  whole-token inside e fine true h =
+      mark-more (i′ .survey) piece (end + 1) (joined e) (omega (arith, i′ .ahead)) (omega arith) (getD text at 0) (part text at end ++ close-brace ∷ []) refl
+      (an-annotation (part text at end) (i′ .brace) fine h)
+  whole-token inside e fine false h =
+      let name : Name tokenLimit (part text at end) = record { fine = fine; own = h } in
+      item-more (i′ .survey) piece (end + 1) (joined e) (omega (arith, i′ .ahead)) (omega arith) (n .depth) (end + 1 - at)
+      (a-token (part text at end) (i′ .brace) name nothing)
+      (ap length (token-kept tokenLimit (getD text at 0) (part text at end) [] (i′ .brace) name)
+      ∙ omega (arith, length-append (part text at end) (close-brace ∷ []), taken, i′ .ahead))
+      (rw (i′ .brace) (told-behind fine ∙ h))
+
+  -- where it stands
+  pub inside-ends : Ends WholeToken ≡ in-token tokenLimit at end text → TokenEnds text at end
+  inside-ends e =
+      record {
+        inside = closing (said tokenLimit at end text) (sym e) .0;
+        ahead = i′ .ahead;
+        few = omega (arith, i′ .few, i′ .ahead);
+        short = i′ .survey .short;
+      }
+
+  pub inside-close : (m : Count) → Ends WholeToken ≡ in-token tokenLimit at end text
+      → m ≡ kept-or-passed (mark (class (getD text at 0)) (drop (at + 1) text)) n at room (end + 1 - at)
+      → SurveySoFar text room m (end + 1)
+  unfolding mark
   inside-close m e h =
       let c = closing (said tokenLimit at end text) (sym e) in
       let fine = scanned-allowed tokenLimit (part text at end) (i′ .scanned) (omega (arith, taken, c .2)) (omega (arith, taken, i′ .few, i′ .ahead)) in
-      (c .0, subst (λ x. SurveySoFar text room x (end + 1)) (sym h) (whole-token (c .0) (c .1) fine))
+      let told : mark (class (getD text at 0)) (drop (at + 1) text) ≡ annotation (part text at end) =
+      rw (i′ .brace, add-one at) (told-behind fine) in
+      subst (λ x. SurveySoFar text room x (end + 1)) (sym (h ∙ ap (λ s. kept-or-passed s n at room (end + 1 - at)) told)) (whole-token (c .0) (c .1) fine _ refl)

@@ -1,6 +1,6 @@
 -- What the reader counts: the meaning of its leaves, each one equation. The laws in proofs/ tie them to reading.
 use Prim.Native.Nat.{ℕ, _+_, _-_, _≤_}
-use mathlib.Core.Bool.{cond}
+use mathlib.Core.Bool.{Bool, cond}
 use mathlib.Core.List.{List}
 use lib.Dec.{leb, ltb, eqb}
 use lib.ListN.{length, getD, drop}
@@ -61,6 +61,10 @@ stepped n CLOSE at room = cond (eqb (n .depth) 0) (Stop (Unmatched (place at))) 
 stepped n BRACE at room = Token
 stepped n BLANK at room = On n
 stepped n BAD at room = Stop (BadByte (place at))
+
+-- a token that was read is an item, unless it is a mark
+abbrev pub kept-or-passed : (is-mark : Bool) → Count → (at room bytes : ℕ) → Count
+kept-or-passed is-mark n at room bytes = cond is-mark n (one-item n at room bytes)
 
 -- a token's fault ends its reading, at the fault's own place
 abbrev pub faulty : TokenFault → (at : ℕ) → InToken

@@ -1,14 +1,15 @@
 // Reads a text from left to right and counts; no memory is lent. An outer loop over items and an inner loop over a
-// token's bytes, left by a label at the first fault. Counting goes on past the room for cells, since the faults of the
-// text come before a plan that is too large.
+// token's bytes, left by a label at the first fault. A token that was read is an item, or an annotation, which counts for
+// nothing. Counting goes on past the room for cells, since the faults of the text come before a plan that is too large.
 ghost use mathlib.Core.Path.{_≡_};
-ghost use Prim.Native.Nat.{_+_, _<_, _≤_};
-ghost use lib.ListN.{length, drop};
+ghost use Prim.Native.Nat.{_+_, _-_, _<_, _≤_};
+ghost use lib.ListN.{length, getD, drop};
 ghost use Rattle.kinds.specs.Limits.{textLimit, tokenLimit};
 ghost use Rattle.plan.specs.Token.{character};
-ghost use Rattle.plan.specs.Reading.{class, read};
+ghost use Rattle.plan.specs.Reading.{class, mark, read};
 ghost use Rattle.plan.specs.declared.Class.the-variants.{Close as CLOSE};
-ghost use Rattle.reader.specs.Counting.{Small, nothing-yet, one-item, opened, stepped, faulty, in-character, in-token, finished, surveyed};
+ghost use Rattle.text.specs.TokenEnds.{TokenEnds};
+ghost use Rattle.reader.specs.Counting.{Small, nothing-yet, one-item, opened, stepped, kept-or-passed, faulty, in-character, in-token, finished, surveyed};
 use kinds::Place;
 use kinds::Token;
 use plan::Character;
@@ -19,6 +20,7 @@ use plan::TokenFault;
 use text::OPEN_BRACE;
 use text::character_at;
 use text::class_of;
+use text::is_mark;
 use text::may_hold;
 
 // What was counted so far: blocks open, items begun, bytes that will be printed, and the place of the first item past
@@ -187,6 +189,17 @@ fn token_byte(text: &[u8], start: usize, at: usize) -> InToken
     token_character(text, last, at)
 }
 
+// A token that was read to its `}`: an item is kept, a mark passed over.
+fn whole_token(text: &[u8], count: Count, at: usize, end: usize, room: u32) -> Count
+    requires { ⌜ Small count × TokenEnds (now text) at end ⌝ }
+    ensures { λ r. ⌜ r ≡ kept-or-passed (mark (class (getD (now (text .entry)) at 0)) (drop (at + 1) (now (text .entry)))) count at room (end + 1 - at) ⌝ }
+{
+    if is_mark(text, at) {
+        return count;
+    }
+    one_item(count, at, room, (end + 1 - at) as u32)
+}
+
 // The end of the text.
 fn finish(count: Count, at: usize, room: u32) -> Surveyed
     requires { ⌜ at ≤ textLimit ⌝ }
@@ -234,7 +247,7 @@ pub fn survey(text: &[u8], room: u32) -> Surveyed
                         }
                     }
                 }
-                count = one_item(count, at, room, (end + 1 - at) as u32);
+                count = whole_token(text, count, at, end, room);
                 at = end + 1;
             }
         }

@@ -15,7 +15,8 @@ use Rattle.plan.specs.Services.{standard}
 use Rattle.plan.specs.declared.Answer.{Answer}
 use Rattle.plan.specs.declared.Answer.the-variants.{Read, Refused}
 use Rattle.plan.specs.declared.Refusal.{Refusal}
-use Rattle.plan.proofs.Faultless.{without-blanks-same}
+use Rattle.plan.specs.Reading.{OUTSIDE}
+use Rattle.plan.proofs.Faultless.{without-marks-same}
 use Rattle.plan.proofs.ReadBack.{read-accepted}
 use Rattle.plan.proofs.Slots.{accepted-text}
 use Rattle.filing.specs.Rules.{finished-as, is-finished, is-printed, printed-as}
@@ -32,7 +33,7 @@ module _ (text : List ℕ) where
       printed-whole e =
           let a = told-accepted text call is in
           let back = read-accepted tokenLimit cellLimit text (accepted-text standard cellLimit text (a .read-as) .reads) in
-          let all = without-blanks-same false text (ap length (sym (back .printed)) ∙ a .long ∙ e) in
+          let all = without-marks-same OUTSIDE text (ap length (sym (back .printed)) ∙ a .long ∙ e) in
           sym (ap (printed-as text) (a .read-as) ∙ same-true text (print (a .plan)) (sym all ∙ sym (back .printed)))
 
       printed-not : l ≢ length text → false ≡ is-printed standard text

@@ -1,3 +1,4 @@
 pub mod Characters
+pub mod Marks
 pub mod Table
 pub mod Values

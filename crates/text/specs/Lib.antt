@@ -1,1 +1,2 @@
 pub mod Continued
+pub mod TokenEnds

@@ -1,9 +1,10 @@
-// The text's side of reading a plan: the class of a byte, the character of UTF-8 at a place, and which characters a
-// token may hold.
+// The text's side of reading a plan: the class of a byte, what is a mark, the character of UTF-8 at a place, and which
+// characters a token may hold.
 ghost use mathlib.Core.Path.{_≡_};
-ghost use lib.ListN.{drop};
-ghost use Rattle.plan.specs.Reading.{class};
-ghost use Rattle.plan.specs.Token.{character, may-hold, value, well-formed};
+ghost use Prim.Native.Nat.{_+_, _<_};
+ghost use lib.ListN.{length, getD, drop};
+ghost use Rattle.plan.specs.Reading.{class, mark};
+ghost use Rattle.plan.specs.Token.{annotation, character, may-hold, value, well-formed};
 ghost use Rattle.text.specs.Continued.{continued, Room};
 use plan::Character;
 use plan::Class;
@@ -15,6 +16,31 @@ pub fn class_of(byte: u8) -> Class
     ensures { λ r. ⌜ r ≡ class byte ⌝ }
 {
     Class::of(classes::CLASSES[byte as usize])
+}
+
+// Whether a token's text, which begins at a place, is that of an annotation.
+fn is_annotation(text: &[u8], from: usize) -> bool
+    ensures { λ r. ⌜ r ≡ annotation (drop from (now (text .entry))) ⌝ }
+{
+    if text.len() <= from {
+        return false;
+    }
+    text[from] == b'&'
+}
+
+// Whether a mark begins at a place outside tokens: SP, LF, or an annotation, which means nothing as they do.
+pub fn is_mark(text: &[u8], at: usize) -> bool
+    requires { ⌜ at < length (now text) ⌝ }
+    ensures { λ r. ⌜ r ≡ mark (class (getD (now (text .entry)) at 0)) (drop (at + 1) (now (text .entry))) ⌝ }
+{
+    match class_of(text[at]) {
+        Class::Operator(_) => false,
+        Class::Open => false,
+        Class::Close => false,
+        Class::Brace => is_annotation(text, at + 1),
+        Class::Blank => true,
+        Class::Bad => false,
+    }
 }
 
 // The value of a character once the bytes that follow its first have been taken, if they are there.

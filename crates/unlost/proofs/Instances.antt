@@ -7,8 +7,8 @@ use native.Mathlib.Omega.{arith}
 use lib.ListN.{take, replicate}
 use Rattle.plan.specs.Options.{_else_, is-none, under}
 use Rattle.plan.specs.Plan.{cells, labels, letter, print, _then_}
-use Rattle.plan.specs.Token.{follows, scalar, value, well-formed, all-permitted, allowed, before-brace, character, if-allowed, may-hold, permits, token-text}
-use Rattle.plan.specs.Reading.{class, fit, go-on, move, past-token, read, read-from}
+use Rattle.plan.specs.Token.{annotation, follows, scalar, value, well-formed, all-permitted, allowed, before-brace, character, if-allowed, may-hold, permits, token-text}
+use Rattle.plan.specs.Reading.{class, fit, go-on, mark, move, past-token, read, read-from}
 use Rattle.plan.specs.Rewriting.{after-two, finished, first-block, inner, next, outer}
 use Rattle.plan.specs.Services.{accept}
 use Rattle.plan.specs.Worked.{bytes}
@@ -60,7 +60,7 @@ use Rattle.filing.specs.Answers.{
   unless,
 }
 use Rattle.filing.specs.declared.RollAnswer.the-variants.{Listed, Refused}
-use Rattle.filing.specs.declared.RollRefusal.the-variants.{BadRoll, Unfinished}
+use Rattle.filing.specs.declared.RollRefusal.the-variants.{BadRoll, BadText, Unfinished}
 use Rattle.filing.specs.declared.Tally.{Tally}
 use Rattle.roll.specs.Calls.{Lists}
 use Rattle.keeping.specs.Calls.{Adds}
@@ -108,6 +108,13 @@ two = 1 ∷ first-filed ++ then-done ++ replicate 37 7
 abbrev three : List ℕ
 three = 1 ∷ first-filed ++ then-done ++ last-filed ++ replicate 10 7
 
+-- a text with an annotation, and an entry that has it
+abbrev annotated : List ℕ
+annotated = bytes "{&}"
+
+abbrev annotated-filed : List ℕ
+annotated-filed = 2 ∷ 0 ∷ 0 ∷ 0 ∷ 1 ∷ 0 ∷ 0 ∷ 0 ∷ job ++ 3 ∷ 0 ∷ 0 ∷ 0 ∷ annotated
+
 abbrev tally : (filed done : ℕ) → Tally
 tally f d = record { filed = f; done = d }
 
@@ -116,13 +123,17 @@ pub calls : Adds (file edition-1 buffer 0 job ended) (tally 0 0) (Listed 1 1 0 2
     × Adds (file edition-1 two 33 other-job p7) (tally 1 1) (Listed 3 2 1 60) three (tally 2 1)
     × Adds (close-job edition-1 three 60 other-job) (tally 2 1) (Refused (Unfinished 33)) three (tally 2 1)
     × Lists (take 60 three) (replicate 4 9) (Listed 3 2 1 60) (1 ∷ 24 ∷ 33 ∷ 9 ∷ []) × Lists buffer (replicate 4 9) (Refused (BadRoll 0)) (replicate 4 9)
-unfolding read-roll fill places file close-job add-to in-use judged by-rules unbroken unless no-room filing-fault closing-fault unfinished after-done grown new-bytes entry-bytes sections-bytes with-count four-bytes roll listing listed with-first entry sections counted number so-many then-read broken obeys says same digits is-job is-printed printed-as is-finished finished-as standing newest may-file may-close is-new counts-filed counts-done filed done finished is-none next outer inner first-block after-two under _else_ accept read read-from go-on move past-token fit class token-text if-allowed before-brace allowed all-permitted permits may-hold character value follows scalar well-formed cells labels print letter _then_ bytes
+    × Adds (file edition-1 one 24 other-job annotated) (tally 1 0) (Refused BadText) one (tally 1 0)
+    × Lists (1 ∷ annotated-filed) (replicate 4 9) (Refused (BadRoll 1)) (replicate 4 9)
+unfolding read-roll fill places file close-job add-to in-use judged by-rules unbroken unless no-room filing-fault closing-fault unfinished after-done grown new-bytes entry-bytes sections-bytes with-count four-bytes roll listing listed with-first entry sections counted number so-many then-read broken obeys says same digits is-job is-printed printed-as is-finished finished-as standing newest may-file may-close is-new counts-filed counts-done filed done finished is-none next outer inner first-block after-two under _else_ accept read read-from go-on move past-token mark annotation fit class token-text if-allowed before-brace allowed all-permitted permits may-hold character value follows scalar well-formed cells labels print letter _then_ bytes
 calls = (
   record { answer = refl; bytes = refl; filed = refl; done = refl },
   record { answer = refl; bytes = refl; filed = refl; done = refl },
   record { answer = refl; bytes = refl; filed = refl; done = refl },
   record { answer = refl; bytes = refl; filed = refl; done = refl },
   record { answer = refl; places = refl },
+  record { answer = refl; places = refl },
+  record { answer = refl; bytes = refl; filed = refl; done = refl },
   record { answer = refl; places = refl },
 )
 
@@ -148,7 +159,7 @@ an-adding-stored =
 -- `RollReads`, of the whole and of a part that is cut in the last entry
 pub a-roll : RollReads (take 60 three) (filing ∷ closing ∷ later ∷ []) 60 × RollReads (take 59 three) (filing ∷ closing ∷ []) 33
     × RollReads (take 24 one) (filing ∷ []) 24
-unfolding whole-in torn-from entry-end sections-size judged by-rules unbroken roll listing listed with-first entry sections counted number so-many then-read broken obeys says same digits is-job is-printed printed-as is-finished finished-as standing newest may-file may-close finished is-none next outer inner first-block after-two under _else_ accept read read-from go-on move past-token fit class token-text if-allowed before-brace allowed all-permitted permits may-hold character value follows scalar well-formed cells labels print letter _then_ bytes
+unfolding whole-in torn-from entry-end sections-size judged by-rules unbroken roll listing listed with-first entry sections counted number so-many then-read broken obeys says same digits is-job is-printed printed-as is-finished finished-as standing newest may-file may-close finished is-none next outer inner first-block after-two under _else_ accept read read-from go-on move past-token mark annotation fit class token-text if-allowed before-brace allowed all-permitted permits may-hold character value follows scalar well-formed cells labels print letter _then_ bytes
 a-roll = (refl, cut-reads (take 60 three) {es = filing ∷ closing ∷ later ∷ []} {end = 60} refl 59, refl)
 
 -- `ListedAs` and `Unlisted`

@@ -1,5 +1,6 @@
 pub mod Added
 pub mod Adding
+pub mod Annotations
 pub mod Cut
 pub mod DoneHasText
 pub mod Exact

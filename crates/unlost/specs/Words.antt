@@ -63,6 +63,9 @@ pub record HasText (job : List ℕ) (before after : List Entry) : Type 0 where
   pub none-after : NoneOf job after
 
 -- the numbers of some refusals; 3 is `READ`, as of CHECK
+abbrev pub BADROLL : ℕ
+BADROLL = 31
+
 abbrev pub BADTEXT : ℕ
 BADTEXT = 33
 

@@ -5,7 +5,7 @@ use mathlib.Core.Bool.{Bool, true, false, _||_, or-assoc, or-true}
 use mathlib.Core.Option.{Option, none, some}
 use mathlib.Core.List.{List}
 use Rattle.plan.specs.Plan.{Plan, end, operator, token, block, _then_}
-use Rattle.plan.specs.Token.{Allowed, allowed}
+use Rattle.plan.specs.Token.{Allowed, Name}
 use Rattle.plan.proofs.Plans.{allowed-then, then-assoc}
 use Rattle.plan.proofs.Tests.{false-is-not-true}
 use Rattle.stored.specs.Same.{same}
@@ -40,7 +40,7 @@ module _ {L : Type 0} where
   holds-in-place t (some q) l u p stays put more = holds-then t q p ∙ ap₂ _||_ (put q refl) more
 
   -- its tokens are allowed if the plan's and the rest's are
-  allowed-in-place : (limit : ℕ) (s : Option (Plan L)) (l : L) (t : List ℕ) (p : Plan L) → allowed limit t ≡ true
+  allowed-in-place : (limit : ℕ) (s : Option (Plan L)) (l : L) (t : List ℕ) (p : Plan L) → Name limit t
       → ((q : Plan L) → s ≡ some q → Allowed limit q) → Allowed limit p → Allowed limit (in-place s l t p)
   unfolding in-place
   allowed-in-place limit none l t p fine put more = (fine, more)

@@ -12,7 +12,7 @@ use lib.Dec.{leb}
 use lib.ListN.{length}
 use Rattle.plan.specs.Pieces.{Shows, pieces}
 use Rattle.plan.specs.Plan.{Plan, end, cells, print}
-use Rattle.plan.specs.Reading.{Reading, PLAN, REFUSED, outermost, read-from, without-blanks}
+use Rattle.plan.specs.Reading.{Reading, PLAN, REFUSED, outermost, read-from, OUTSIDE, without-marks}
 use Rattle.plan.specs.Services.{Limits, accept}
 use Rattle.plan.specs.Token.{Allowed}
 use Rattle.plan.proofs.ReadBack.{read-accepted}
@@ -51,7 +51,7 @@ pub record AcceptableText (lim : Limits) (text : List ℕ) : Type 0 where
   pub fits : cells plan ≤ lim .cells
   pub fine : Allowed (lim .token) plan
   pub shows : Shows (lim .token) 0 text (pieces plan)
-  pub printed : print plan ≡ without-blanks false text
+  pub printed : print plan ≡ without-marks OUTSIDE text
 
 -- a text that CHECK reads has a plan, of so many cells at most, and it is the plan of the text
 pub acceptable-plan : (lim : Limits) (text : List ℕ) → acceptable lim text ≡ true → AcceptableText lim text

@@ -2,9 +2,9 @@
 use mathlib.Core.Path.{_≡_, refl}
 use mathlib.Core.List.{map}
 use Rattle.plan.specs.Plan.{_then_, cells, labels, letter, print}
-use Rattle.plan.specs.Token.{follows, scalar, value, well-formed, all-permitted, allowed, before-brace, character, if-allowed, may-hold, permits, token-text}
+use Rattle.plan.specs.Token.{annotation, follows, scalar, value, well-formed, all-permitted, allowed, before-brace, character, if-allowed, may-hold, permits, token-text}
 use Rattle.plan.specs.TokenFaults.{first-fault, meet, unheld}
-use Rattle.plan.specs.Reading.{class, fit, go-on, move, past-token, read, read-from}
+use Rattle.plan.specs.Reading.{class, fit, go-on, mark, move, past-token, read, read-from}
 use Rattle.plan.specs.Options.{under}
 use Rattle.plan.specs.Services.{accept}
 use Rattle.plan.specs.Worked.{bytes}
@@ -16,5 +16,5 @@ use Rattle.words.specs.Answers.{link-by, link-read, link-text, links, re
 use Rattle.words.specs.Worked.{answered, expected, lent, listing, worked-links}
 
 pub worked-lists : map answered worked-links ≡ map expected worked-links
-unfolding answered expected lent listing worked-links bytes link-text links link-by link-read read-text within write-linked stock as-counted stocked next-word right fits is-name acceptable is-read word used listed holds stands-for link in-place plan-of plan-in same counted number so-many then-read with-count four-bytes accept read read-from go-on move past-token fit class token-text if-allowed before-brace allowed all-permitted permits may-hold character value follows scalar well-formed cells labels print letter _then_ under first-fault meet unheld
+unfolding answered expected lent listing worked-links bytes link-text links link-by link-read read-text within write-linked stock as-counted stocked next-word right fits is-name acceptable is-read word used listed holds stands-for link in-place plan-of plan-in same counted number so-many then-read with-count four-bytes accept read read-from go-on move past-token mark annotation fit class token-text if-allowed before-brace allowed all-permitted permits may-hold character value follows scalar well-formed cells labels print letter _then_ under first-fault meet unheld
 worked-lists = refl

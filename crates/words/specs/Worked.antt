@@ -1,5 +1,5 @@
 -- Lists and texts to try, and what linking answers: a word used twice, in a block, of another word, one that is not listed, one that is
--- empty, each kind of fault with its rank, and each refusal that comes after the list's but 11. Plans may have 4 cells here, so that a
+-- empty, annotations in texts, each kind of fault with its rank, and each refusal that comes after the list's but 11. Plans may have 4 cells here, so that a
 -- small one is too large.
 use Prim.Native.Nat.{ℕ}
 use Prim.Native.String.{String}
@@ -48,6 +48,8 @@ worked-links =
     linked 2 (entry "t" "[{%s}]{%s}" ∷ entry "s" "c" ∷ []) "{%t}" 3 4 "[c]c" ∷
     linked 1 (entry "s" " " ∷ []) "{%s}[{%s}]{%s}{%s}{%s}{%s}" 1 2 "[]" ∷
     linked 2 (entry "t" "{%s}{%s}" ∷ entry "s" "abc" ∷ []) "{%s}" 3 3 "abc" ∷
+    linked 2 (entry "t" "{&a}[{%s}]{&%t}" ∷ entry "s" "{&}c" ∷ []) "{&b}{%t}{&%u}" 2 3 "[c]" ∷
+    linked 1 (entry "s" "{&a}{&b}" ∷ []) "{%s}[{%s}]{&}" 1 2 "[]" ∷
     refused (listing 1 (entry "s" "abc" ∷ [])) "{%s}{%s}" 20 17 0 ∷
     refused (listing 1 (entry "s" "abc" ∷ [])) "{%s}{%s}]" 20 15 8 ∷
     refused (listing 1 (entry "s" "abc" ∷ [])) "{%s}x" 20 13 4 ∷
@@ -64,6 +66,7 @@ worked-links =
     bad-list 3 (entry "s" "b" ∷ entry "t" "" ∷ entry "s" "a" ∷ []) 2 ∷
     bad-list 2 (entry "t" "]" ∷ entry "s" "a" ∷ []) 1 ∷
     bad-list 2 (entry "t" "abcda" ∷ entry "s" "a" ∷ []) 1 ∷
+    bad-list 2 (entry "t" "{&{}" ∷ entry "s" "{&}" ∷ []) 1 ∷
     bad-list 1 (entry "s" "[{%s}]" ∷ []) 0 ∷
     bad-list 3 (entry "u" "a" ∷ entry "t" "" ∷ entry "s" "[{%u}]" ∷ []) 2 ∷
     bad-list 3 (entry "u" "]" ∷ entry "t" "" ∷ entry "s" "{%u}{%t}" ∷ []) 1 ∷ []

@@ -1,7 +1,8 @@
 -- `token_piece`: where the token ends says how long it is.
 use native.Mathlib.Omega.{arith}
 use borrow.Author.Needs.{needs}
-use Rattle.items.proofs.Telling.{TokenEnds, token-ends, token-told}
+use Rattle.text.specs.TokenEnds.{TokenEnds}
+use Rattle.items.proofs.Telling.{token-ends, token-told}
 use Rattle.items.proofs.token_piece.Statement.{statement}
 use Rattle.items.proofs.token_piece.Tie as tie
 

@@ -7,7 +7,7 @@ use native.Mathlib.Omega.{arith}
 use borrow.Author.Needs.{needs}
 use Rattle.reader.specs.declared.InToken.the-variants.{Ends}
 use Rattle.reader.proofs.SurveySoFar.{SurveySoFar, survey-start, survey-small, survey-on, survey-stop, survey-end}
-use Rattle.reader.proofs.TokenSoFar.{TokenSoFar, inside-start, inside-further, inside-faulty, inside-close}
+use Rattle.reader.proofs.TokenSoFar.{TokenSoFar, inside-start, inside-further, inside-faulty, inside-ends, inside-close}
 use Rattle.reader.proofs.survey.Statement.{statement}
 use Rattle.reader.proofs.survey.Tie as tie
 
@@ -108,19 +108,11 @@ enum-known-token-2 c = search needs
 enum-told-2 : tie.Need-enum-told-2 Inv-loop μ-loop Inv-items μ-items
 enum-told-2 c = search needs
 
-add-one-item : tie.Need-add-one-item Inv-loop μ-loop Inv-items μ-items
-add-one-item c = search needs
-
-sub-one-item : tie.Need-sub-one-item Inv-loop μ-loop Inv-items μ-items
-sub-one-item c = search needs
-
-cast-one-item : tie.Need-cast-one-item Inv-loop μ-loop Inv-items μ-items
-cast-one-item c = search needs
-
-one-item-requires : tie.Need-one-item-requires Inv-loop μ-loop Inv-items μ-items
-one-item-requires c κs =
-    let i = c .before .before .before .before .before .before .loop .inv in
-    (survey-small (i .survey), omega (arith, i .survey .within, i .survey .short), omega (arith, i .few, i .ahead))
+whole-token-requires : tie.Need-whole-token-requires Inv-loop μ-loop Inv-items μ-items
+whole-token-requires c κs =
+    let t = c .before .before .before .before .before in
+    let i = t .before .loop .inv in
+    (survey-small (i .survey), inside-ends i (sym (c .before .before .before .token .given .1 ∙ ap Ends (c .enum-told2 .given .1)) ∙ t .token-byte .ensures))
 
 add-at-2 : tie.Need-add-at-2 Inv-loop μ-loop Inv-items μ-items
 add-at-2 c = search needs
@@ -133,7 +125,7 @@ items-again-2 c =
     let k = c .before in
     let t = k .before .before .before .before .before in
     inside-close (t .before .loop .inv) _
-    (sym (k .before .before .before .token .given .1 ∙ ap Ends (k .enum-told2 .given .1)) ∙ t .token-byte .ensures) (c .one-item .ensures) .1
+    (sym (k .before .before .before .token .given .1 ∙ ap Ends (k .enum-told2 .given .1)) ∙ t .token-byte .ensures) (c .whole-token .ensures)
 
 returns-2 : tie.Need-returns-2 Inv-loop μ-loop Inv-items μ-items
 returns-2 c =
@@ -179,10 +171,7 @@ survey-spec =
     enum-known-token
     enum-known-token-2
     enum-told-2
-    add-one-item
-    sub-one-item
-    cast-one-item
-    one-item-requires
+    whole-token-requires
     add-at-2
     items-less-2
     items-again-2

@@ -1,4 +1,4 @@
--- `tidy`: a refusal, 18, or the text without its blanks in front of an output that is otherwise as it was.
+-- `tidy`: a refusal, 18, or the text without its marks in front of an output that is otherwise as it was.
 use borrow.Author.Needs.{needs}
 use Rattle.services.proofs.Acceptance.{tidy-fits, tidy-refused, tidy-short, tidy-written}
 use Rattle.services.proofs.tidy.Statement.{statement}
