@@ -6,7 +6,7 @@ use mathlib.Core.Bool.{Bool, true, false}
 use mathlib.Core.List.{List, [], _∷_, _++_, append-assoc}
 use native.Mathlib.Omega.{arith}
 use native.Mathlib.Numerals.{add-one}
-use lib.ListN.{length, getD, drop, length-append, length-drop, drop-of-length-le}
+use lib.ListN.{length, getD, drop, length-append, drop-of-length-le}
 use lib.Seq.{drop-at, drop-cons, drop-drop}
 use Rattle.kinds.specs.Limits.{textLimit, tokenLimit}
 use Rattle.plan.specs.Plan.{close-brace, open-brace}
@@ -15,7 +15,7 @@ use Rattle.plan.specs.Reading.{Mark, blank, an-annotation, class, mark}
 use Rattle.plan.proofs.Classes.{class-brace, class-byte, clash}
 use Rattle.plan.proofs.Tests.{false-is-not-true}
 use Rattle.plan.proofs.Tokens.{annotation-of}
-use Rattle.items.specs.Walk.{MarkAt, MarkFrom, Passed, PieceFrom, ShowsAhead, TokenFrom, Walked}
+use Rattle.items.specs.Walk.{MarkAt, MarkFrom, PieceFrom, ShowsAhead, TokenFrom, Walked}
 use Rattle.items.specs.declared.NextPiece.{NextPiece}
 use Rattle.items.specs.declared.NextPiece.the-variants.{End, Piece as AtPiece}
 
@@ -74,14 +74,15 @@ pub record WalkSoFar (text : List ℕ) (from at : ℕ) : Type 0 where
 pub passing-first : {text : List ℕ} {from : ℕ} → ShowsAhead text from → WalkSoFar text from from
 passing-first a = record { short = a .short; low = omega arith; come = a .come; shows = a .shows; still = λ ps s. s }
 
-module _ {text : List ℕ} {from at : ℕ} (p : WalkSoFar text from at) (inside : at < length text) where
-  onward : drop at text ≡ getD text at 0 ∷ drop (at + 1) text
-  onward = drop-cons text at 0 inside ∙ rw add-one refl
+-- the byte at a place, and those behind it
+pub byte-first : (text : List ℕ) (at : ℕ) → at < length text → drop at text ≡ getD text at 0 ∷ drop (at + 1) text
+byte-first text at inside = drop-cons text at 0 inside ∙ rw add-one refl
 
+module _ {text : List ℕ} {from at : ℕ} (p : WalkSoFar text from at) (inside : at < length text) where
   -- what the code found, s, says that a mark begins here
   module _ {s : Bool} (told : s ≡ mark (class (getD text at 0)) (drop (at + 1) text)) (is : s ≡ true) where
     here : {ps : List (PlanPiece ℕ)} → Shows tokenLimit at (drop at text) ps → Marked at (getD text at 0) (drop (at + 1) text) ps
-    here {ps} s = marked (subst (λ us. Shows tokenLimit at us ps) onward s) (sym told ∙ is)
+    here {ps} s = marked (subst (λ us. Shows tokenLimit at us ps) (byte-first text at inside) s) (sym told ∙ is)
 
     stands : {ps : List (PlanPiece ℕ)} (k : Marked at (getD text at 0) (drop (at + 1) text) ps) → MarkAt text at (k .m)
     stands k = record { rest = k .rest; splits = k .splits; is = k .is }

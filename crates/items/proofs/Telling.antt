@@ -4,10 +4,9 @@ use mathlib.Core.Path.{_≡_, refl, ap, sym, _∙_, subst}
 use mathlib.Core.Bool.{false}
 use mathlib.Core.List.{List, [], _∷_, _++_, append-assoc}
 use native.Mathlib.Omega.{arith}
-use native.Mathlib.Numerals.{add-one}
-use lib.ListN.{length, getD, take, drop, length-append, length-drop, drop-of-length-le}
-use lib.Seq.{drop-at, drop-cons, drop-drop, take-at}
-use Rattle.kinds.specs.Limits.{textLimit, tokenLimit}
+use lib.ListN.{length, getD, take, drop, length-append, length-drop}
+use lib.Seq.{drop-at, drop-drop, take-at}
+use Rattle.kinds.specs.Limits.{tokenLimit}
 use Rattle.kinds.specs.declared.Place.{Place}
 use Rattle.kinds.specs.declared.Token.{Token as TextToken}
 use Rattle.plan.specs.Plan.{close-brace, open-brace}
@@ -34,6 +33,7 @@ use Rattle.pieces.specs.declared.Piece.the-variants.{Operator as an-op, Token, 
 use Rattle.items.specs.Walk.{LabelledAt, Passed, PieceFrom, Walked, TokenFrom, one-byte, one-token}
 use Rattle.items.specs.declared.NextPiece.{NextPiece}
 use Rattle.items.specs.declared.NextPiece.the-variants.{Piece as AtPiece}
+use Rattle.items.proofs.Passing.{byte-first}
 
 -- the first piece is x, of one byte
 abbrev FirstPiece : (at : ℕ) → PlanPiece ℕ → List ℕ → List (PlanPiece ℕ) → Type 0
@@ -86,7 +86,7 @@ module _ {text : List ℕ} {at : ℕ} (p : PieceFrom text at) where
   b = getD text at 0
 
   onward : drop at text ≡ b ∷ drop (at + 1) text
-  onward = drop-cons text at 0 (p .inside) ∙ rw add-one refl
+  onward = byte-first text at (p .inside)
 
   module _ {k : Class} (e : k ≡ class b) where
     here : (c : Class) → k ≡ c → {ps : List (PlanPiece ℕ)} → Shows tokenLimit at (drop at text) ps → ToldByClass c at (drop (at + 1) text) ps
