@@ -1,5 +1,5 @@
-/* The C interface of the plan reader: CHECK, TIDY and RUN over lent bytes and numbers, linking by stock words, and the roll of
-   filed jobs.
+/* The C interface of the plan reader: READ and RUN over lent bytes and numbers, linking by stock words, and the roll of filed
+   jobs.
    `rt staticlib turnip` writes target/staticlib/libturnip.a, which defines these functions for x86-64 Linux. Each of them is
    proved to do, for every input, what the definitions in crates/plan/specs, crates/words/specs and crates/filing/specs say;
    crates/turnip/src/lib.rt has the contracts. */
@@ -31,7 +31,7 @@ extern "C" {
 /* The five numbers of an answer, in answer[0] to answer[4]. */
 enum turnip_field {
     TURNIP_NUMBER, /* which answer this is: one of the numbers below */
-    TURNIP_STEPS,  /* rewrites made; 0 for CHECK, TIDY and LINK, and for 11 to 26 */
+    TURNIP_STEPS,  /* rewrites made; 0 for READ and LINK, and for 11 to 26 */
     TURNIP_CELLS,  /* cells of the resulting plan; 0 for 11 to 26 */
     TURNIP_LENGTH, /* bytes of its printed text; 0 for 11 to 26 */
     TURNIP_PLACE,  /* a place in the text, the bytes needed, or a rank; 0 for 0 to 3, 11 and 12 */
@@ -49,7 +49,7 @@ enum turnip_number {
     TURNIP_DONE = 0,        /* RUN: no operator is ready, at any depth */
     TURNIP_QUOTA = 1,       /* RUN: the steps made equal the quota, and there is a next result that fits */
     TURNIP_FULL = 2,        /* RUN: the next result has more cells than the work memory gives */
-    TURNIP_READ = 3,        /* CHECK, TIDY, LINK: the text is accepted, finished or not */
+    TURNIP_READ = 3,        /* READ, LINK: the text is accepted, finished or not */
     TURNIP_TOOLONG = 11,    /* the text is over 1,048,576 bytes */
     TURNIP_BADARENA = 12,   /* RUN: the work memory gives more than 4,096 cells */
     TURNIP_BADBYTE = 13,    /* a byte that may not stand outside tokens; its place */
@@ -57,7 +57,7 @@ enum turnip_number {
     TURNIP_UNCLOSED = 16,   /* the text ends in an open block; the place is the text's length */
     TURNIP_OVERFULL = 17,   /* more cells than there may be; the place is the first byte of the first item past them, which no
                                annotation is */
-    TURNIP_OUTSHORT = 18,   /* TIDY, RUN, LINK: the printed text is longer than the output; the place is the bytes needed */
+    TURNIP_OUTSHORT = 18,   /* the printed text is longer than the output; the place is the bytes needed */
     TURNIP_EMPTYTOKEN = 21, /* nothing between a token's braces; the place of its } */
     TURNIP_LONGTOKEN = 22,  /* a token's 64th byte, its { being the first, is not its }; that byte's place. Or the text ends in a
                                token before that; the place is the text's length */
@@ -66,12 +66,14 @@ enum turnip_number {
     TURNIP_INNERBRACE = 25  /* a { in a token; its place */
 };
 
-/* CHECK: whether a text is a plan, with the plan's cells and the length of its printed text. */
-void turnip_check(const uint8_t *text, size_t text_length, uint32_t answer[5]);
+/* READ: whether a text is a plan, with the plan's cells, the length of its printed text, and that text (the text with SP, LF and
+   annotations outside tokens taken out) written to the start of out. The other bytes of out are as they were; after a refusal
+   (11 to 25) all of them are.
 
-/* TIDY: CHECK, and the printed text of the plan (the text with SP, LF and annotations outside tokens taken out) written to the
-   start of out. The other bytes of out are as they were; after a refusal (11 to 25) all of them are. */
-void turnip_tidy(const uint8_t *text, size_t text_length, uint8_t *out, size_t out_length, uint32_t answer[5]);
+   A text is acceptable when nothing but 18 could refuse it: that is a text of at most 1,048,576 bytes that reads as a plan of at
+   most 4,096 cells. An output of no bytes asks just this: it gives 18 and the bytes needed, or 3 where the plan is empty, for an
+   acceptable text, and another refusal for every other text. */
+void turnip_read(const uint8_t *text, size_t text_length, uint8_t *out, size_t out_length, uint32_t answer[5]);
 
 /* RUN: rewrites the plan of a text at most quota times, in the work memory, and writes the printed text of what it then is to
    the start of out, with the other bytes as they were; after a refusal all of them are as they were.
@@ -103,7 +105,7 @@ void turnip_link(const uint8_t *list, size_t list_length, const uint8_t *text, s
 /* The roll of filed jobs: bytes that a clerk's program keeps on disk. A roll of no bytes lists nothing. Any other starts with
    the byte 1, and entries follow, one behind the other. An entry is its number of sections (2 for FILED: the job number and a
    text; 1 for DONE: the job number), then for each section the number of its bytes, and these. All such numbers are four
-   bytes, lowest first. A job number is 1 to 10 bytes 0 to 9; a text is a printed text, as TIDY and RUN write it, so that it holds
+   bytes, lowest first. A job number is 1 to 10 bytes 0 to 9; a text is a printed text, as READ and RUN write it, so that it holds
    no annotation.
 
    What stands behind the last whole entry is torn: a power cut left it. It is no part of the roll, and no reason to refuse
@@ -135,7 +137,7 @@ enum turnip_roll_number {
     TURNIP_ROLL_TOOLONG = 11,     /* the roll or the buffer is over 4,294,967,295 bytes */
     TURNIP_ROLL_BADROLL = 31,     /* another first byte, at 0; or a whole entry that breaks a rule, at its first byte */
     TURNIP_ROLL_BADJOB = 32,      /* adding: not 1 to 10 bytes 0 to 9 */
-    TURNIP_ROLL_BADTEXT = 33,     /* adding FILED: not the printed text of a plan that CHECK accepts */
+    TURNIP_ROLL_BADTEXT = 33,     /* adding FILED: not the printed text of an acceptable text's plan */
     TURNIP_ROLL_ALREADYDONE = 34, /* adding: the job has a DONE; its place */
     TURNIP_ROLL_UNFILED = 35,     /* adding DONE: the job has no FILED */
     TURNIP_ROLL_UNFINISHED = 36,  /* adding DONE: its last FILED text has a ready operator; that FILED's place */

@@ -2,12 +2,13 @@
 
        differential SEED COUNT
 
-   A case is one text, for which CHECK, TIDY and RUN are called, and compared: the five numbers, every byte of the outputs
-   and a few behind them, and every number of the work memory, which is to be 0. One thing more is asked of the library alone:
-   what TIDY writes holds no annotation, and RUN answers to it as to the text. The first difference is told in full and ends
-   the program with status 1. At last a plan nested to the limit is run on a small stack. Status 0: there were no differences,
-   and of 100,000 cases or more each service has given every answer that it can give, and texts with annotations were accepted
-   and refused. */
+   A case is one text, for which READ is called with an output of no bytes and with one about as long as the printed text, and
+   then RUN, and compared: the five numbers, every byte of the outputs and a few behind them, and every number of the work
+   memory, which is to be 0. What READ gives with no bytes is also held to what an acceptable text is. One thing more is asked
+   of the library alone: what READ writes holds no annotation, and RUN answers to it as to the text. The first difference is
+   told in full and ends the program with status 1. At last a plan nested to the limit is run on a small stack. Status 0: there
+   were no differences, and of 100,000 cases or more each call has given every answer that it can give, and texts with
+   annotations were accepted and refused. */
 #include "generator.h"
 #include "small_stack.h"
 #include "turnip.h"
@@ -23,26 +24,27 @@
 enum { GUARD = 16 };
 enum { ALL_EXPECTED_FROM = 100000, NUMBERS = TURNIP_INNERBRACE + 1 };
 
-enum service { CHECK, TIDY, RUN, SERVICES };
+/* The services READ and RUN; what READ gives with an output of no bytes is counted apart. */
+enum call { READ_NO_BYTES, READ, RUN, CALLS };
 
-static const char *const service_names[] = {"CHECK", "TIDY", "RUN"};
+static const char *const call_names[] = {"READ with an output of no bytes", "READ", "RUN"};
 
-/* The answers that each service can give. */
+/* The answers that each call can give: with an output of no bytes 3 is for the empty plan. */
 static const struct {
     uint32_t number;
-    bool of[SERVICES];
+    bool of[CALLS];
 } possible[] = {
     {TURNIP_DONE, {[RUN] = true}},
     {TURNIP_QUOTA, {[RUN] = true}},
     {TURNIP_FULL, {[RUN] = true}},
-    {TURNIP_READ, {[CHECK] = true, [TIDY] = true}},
+    {TURNIP_READ, {[READ_NO_BYTES] = true, [READ] = true}},
     {TURNIP_TOOLONG, {true, true, true}},
     {TURNIP_BADARENA, {[RUN] = true}},
     {TURNIP_BADBYTE, {true, true, true}},
     {TURNIP_UNMATCHED, {true, true, true}},
     {TURNIP_UNCLOSED, {true, true, true}},
     {TURNIP_OVERFULL, {true, true, true}},
-    {TURNIP_OUTSHORT, {[TIDY] = true, [RUN] = true}},
+    {TURNIP_OUTSHORT, {true, true, true}},
     {TURNIP_EMPTYTOKEN, {true, true, true}},
     {TURNIP_LONGTOKEN, {true, true, true}},
     {TURNIP_BADUTF8, {true, true, true}},
@@ -53,9 +55,15 @@ static const struct {
 static struct text text;
 static uint32_t memory[MEMORY_ROOM + GUARD];
 static uint8_t our_out[OUT_ROOM + GUARD], twin_out[OUT_ROOM + GUARD];
-static unsigned long seen[SERVICES][NUMBERS];
-static unsigned long annotated[2]; /* texts that hold `{&`: those that CHECK refuses, and those that it accepts */
+static unsigned long seen[CALLS][NUMBERS];
+static unsigned long annotated[2]; /* texts that hold `{&`: those that are not acceptable, and those that are */
 static uint64_t rewrites, most_rewrites;
+
+/* READ of the text with room for every printed text. */
+static struct {
+    uint8_t out[OUT_ROOM];
+    uint32_t answer[5];
+} ample;
 
 struct numbered_case {
     uint64_t seed;
@@ -64,7 +72,7 @@ struct numbered_case {
     size_t memory_length;
     size_t out_length;
     uint32_t salt; /* what memory and output hold before a call depends on this */
-    bool tidied;   /* what TIDY writes is given, not the text itself */
+    bool tidied;   /* what READ writes is given, not the text itself */
 };
 
 static void tell_answer(const char *whose, const uint32_t answer[5])
@@ -73,11 +81,11 @@ static void tell_answer(const char *whose, const uint32_t answer[5])
            answer[3], answer[4]);
 }
 
-static void tell_difference(const struct numbered_case *made, enum service service, const char *what, const uint32_t ours[5],
+static void tell_difference(const struct numbered_case *made, enum call call, const char *what, const uint32_t ours[5],
                             const uint32_t twins[5])
 {
     printf("DIFFERENCE in the %s: SEED %" PRIu64 " case %" PRIu64 ", %s%s\n", what, made->seed, made->number,
-           service_names[service], made->tidied ? " of the tidied text" : "");
+           call_names[call], made->tidied ? " of the tidied text" : "");
     printf("quota %" PRIu32 ", memory %zu numbers, output %zu bytes, text of %zu bytes:\n", made->quota,
            made->memory_length, made->out_length, text.length);
     for (size_t i = 0; i < text.length; i++)
@@ -88,10 +96,10 @@ static void tell_difference(const struct numbered_case *made, enum service servi
     exit(1);
 }
 
-static void count_answer(enum service service, const uint32_t answer[5])
+static void count_answer(enum call call, const uint32_t answer[5])
 {
     if (answer[TURNIP_NUMBER] < NUMBERS)
-        seen[service][answer[TURNIP_NUMBER]]++;
+        seen[call][answer[TURNIP_NUMBER]]++;
     rewrites += answer[TURNIP_STEPS];
     if (answer[TURNIP_STEPS] > most_rewrites)
         most_rewrites = answer[TURNIP_STEPS];
@@ -125,14 +133,14 @@ static bool memory_as_promised(const struct numbered_case *made)
     return true;
 }
 
-static void compare(const struct numbered_case *made, enum service service, const uint32_t ours[5], const uint32_t twins[5])
+static void compare(const struct numbered_case *made, enum call call, const uint32_t ours[5], const uint32_t twins[5])
 {
     if (memcmp(ours, twins, 5 * sizeof *ours) != 0)
-        tell_difference(made, service, "five numbers", ours, twins);
-    if (service != CHECK && memcmp(our_out, twin_out, made->out_length + GUARD) != 0)
-        tell_difference(made, service, "output", ours, twins);
-    if (service == RUN && !memory_as_promised(made))
-        tell_difference(made, service, "work memory", ours, twins);
+        tell_difference(made, call, "five numbers", ours, twins);
+    if (memcmp(our_out, twin_out, made->out_length + GUARD) != 0)
+        tell_difference(made, call, "output", ours, twins);
+    if (call == RUN && !memory_as_promised(made))
+        tell_difference(made, call, "work memory", ours, twins);
 }
 
 /* An answer that no call leaves behind. */
@@ -142,23 +150,46 @@ static void spoil(uint32_t answer[5])
         answer[i] = 0xdeadbeef;
 }
 
-static void check_and_tidy(struct draws *draws, struct numbered_case *made, const struct twin_result *result)
+static void compare_read(const struct numbered_case *made, enum call call, const struct twin_result *result, uint32_t ours[5])
 {
-    uint32_t ours[5], twins[5];
-    spoil(ours);
-    turnip_check(text.bytes, text.length, ours);
-    twin_tell(result, twins);
-    compare(made, CHECK, ours, twins);
-    count_answer(CHECK, ours);
-
-    made->out_length = make_out_length(draws, result->length);
+    uint32_t twins[5];
     fill_output(made, our_out);
     fill_output(made, twin_out);
     spoil(ours);
-    turnip_tidy(text.bytes, text.length, our_out, made->out_length, ours);
+    turnip_read(text.bytes, text.length, our_out, made->out_length, ours);
     twin_write(result, twin_out, made->out_length, twins);
-    compare(made, TIDY, ours, twins);
-    count_answer(TIDY, ours);
+    compare(made, call, ours, twins);
+    count_answer(call, ours);
+}
+
+/* "An output of no bytes gives OUTSHORT and the bytes needed, unless the plan is empty. A text is acceptable when nothing but
+   OUTSHORT could refuse it": so an acceptable text is read where there is room for every plan, and one that is not is refused
+   alike with that room and with none. Whether it is, the twin has said before an output was asked about, so that its own
+   OUTSHORT has no part in this. */
+static void compare_acceptable(struct numbered_case made, const struct twin_result *result, const uint32_t no_bytes[5])
+{
+    bool acceptable = result->number == TURNIP_READ;
+    const uint32_t anyway[5] = {result->number, 0, result->cells, (uint32_t)result->length, result->place};
+    const uint32_t needed[5] = {[TURNIP_NUMBER] = TURNIP_OUTSHORT, [TURNIP_PLACE] = (uint32_t)result->length};
+    const uint32_t *expected = acceptable && result->cells > 0 ? needed : anyway;
+    if (memcmp(no_bytes, expected, sizeof needed) != 0)
+        tell_difference(&made, READ_NO_BYTES, "bytes needed, or the refusal", no_bytes, expected);
+
+    made.out_length = sizeof ample.out;
+    spoil(ample.answer);
+    turnip_read(text.bytes, text.length, ample.out, made.out_length, ample.answer);
+    if (memcmp(ample.answer, anyway, sizeof anyway) != 0)
+        tell_difference(&made, READ, "answer with room for every plan", ample.answer, anyway);
+}
+
+static void read_text(struct draws *draws, struct numbered_case *made, const struct twin_result *result)
+{
+    uint32_t ours[5];
+    made->out_length = 0;
+    compare_read(made, READ_NO_BYTES, result, ours);
+    compare_acceptable(*made, result, ours);
+    made->out_length = make_out_length(draws, result->length);
+    compare_read(made, READ, result, ours);
 }
 
 /* The twin's run, and quota and memory of it: of a run that ends by itself, often one at the edge of its quota. */
@@ -190,21 +221,20 @@ static void library_run(const struct numbered_case *made, const uint8_t *bytes, 
     turnip_run(bytes, length, made->quota, memory, made->memory_length, our_out, made->out_length, ours);
 }
 
-/* "A token whose text starts with `&` ... means nothing": what TIDY writes of an accepted text holds none, and RUN answers to it
-   as it did to the text, but for OVERFULL's place, which is one in what is given. */
+/* "A token whose text starts with `&` ... means nothing": what READ writes of an accepted text holds none, and RUN answers to
+   it as it did to the text, but for OVERFULL's place, which is one in what is given. */
 static void run_tidied(struct numbered_case made, const uint32_t of_text[5])
 {
-    static uint8_t tidied[OUT_ROOM];
-    uint32_t read[5], ours[5];
-    turnip_tidy(text.bytes, text.length, tidied, sizeof tidied, read);
-    if (read[TURNIP_NUMBER] != TURNIP_READ)
+    uint32_t ours[5];
+    size_t length = ample.answer[TURNIP_LENGTH];
+    if (ample.answer[TURNIP_NUMBER] != TURNIP_READ)
         return;
-    if (opens_annotation(tidied, read[TURNIP_LENGTH]))
-        tell_difference(&made, TIDY, "annotations, of which TIDY wrote one", read, read);
-    if (read[TURNIP_LENGTH] == text.length)
+    if (opens_annotation(ample.out, length))
+        tell_difference(&made, READ, "annotations, of which READ wrote one", ample.answer, ample.answer);
+    if (length == text.length)
         return;
     made.tidied = true;
-    library_run(&made, tidied, read[TURNIP_LENGTH], ours);
+    library_run(&made, ample.out, length, ours);
     if (ours[TURNIP_NUMBER] == TURNIP_OVERFULL)
         ours[TURNIP_PLACE] = of_text[TURNIP_PLACE];
     compare(&made, RUN, ours, of_text);
@@ -232,18 +262,18 @@ static void compare_case(uint64_t seed, uint64_t number)
     struct twin_result result = twin_read(text.bytes, text.length);
     if (opens_annotation(text.bytes, text.length))
         annotated[result.number == TURNIP_READ]++;
-    check_and_tidy(&draws, &made, &result);
+    read_text(&draws, &made, &result);
     run(&draws, &made, result.cells);
     twin_free(&result);
 }
 
 static void tell_seen(void)
 {
-    for (int service = 0; service < SERVICES; service++) {
-        printf("%s answered", service_names[service]);
+    for (int call = 0; call < CALLS; call++) {
+        printf("%s answered", call_names[call]);
         for (int number = 0; number < NUMBERS; number++)
-            if (seen[service][number] > 0)
-                printf("  %d: %lu", number, seen[service][number]);
+            if (seen[call][number] > 0)
+                printf("  %d: %lu", number, seen[call][number]);
         printf("\n");
     }
     printf("annotations in %lu texts that were accepted, and {& in %lu that were refused\n", annotated[1], annotated[0]);
@@ -254,10 +284,10 @@ static void tell_seen(void)
 static bool all_came_up(void)
 {
     bool all = annotated[0] > 0 && annotated[1] > 0;
-    for (int service = 0; service < SERVICES; service++) {
+    for (int call = 0; call < CALLS; call++) {
         for (size_t i = 0; i < sizeof possible / sizeof *possible; i++) {
-            if (possible[i].of[service] && seen[service][possible[i].number] == 0) {
-                printf("%s never answered %" PRIu32 "\n", service_names[service], possible[i].number);
+            if (possible[i].of[call] && seen[call][possible[i].number] == 0) {
+                printf("%s never answered %" PRIu32 "\n", call_names[call], possible[i].number);
                 all = false;
             }
         }

@@ -4,8 +4,8 @@
 
    A case is one word list and one text. Library and twin link them into outputs that were filled alike, and are compared:
    the five numbers, every byte of the outputs, and a few behind. Three things more are asked of the library alone: what it
-   linked is linked again, which must change nothing; the text is linked by the list of no words, which must give what TIDY
-   gives, but for OVERFULL's place; and the text as TIDY writes it is linked, which must give what the text gives. The first few
+   linked is linked again, which must change nothing; the text is linked by the list of no words, which must give what READ
+   gives, but for OVERFULL's place; and the text as READ writes it is linked, which must give what the text gives. The first few
    differences are told in full. Then come the longest lists on a small stack (link_small_stack.h). Status 0: there were no
    differences, and of 10,000 cases or more each answer has come up, and annotations in texts and in words that were linked. */
 #include <inttypes.h>
@@ -158,14 +158,14 @@ static void compare_with_linked(struct asked asked)
     compare(&asked);
 }
 
-static void compare_with_tidy(struct asked asked)
+static void compare_with_read(struct asked asked)
 {
-    asked.compared = "TIDY";
+    asked.compared = "READ";
     asked.list = no_words;
     asked.list_length = sizeof no_words;
     link_by_library(&asked);
     lend(&asked, &other);
-    turnip_tidy(asked.text, asked.text_length, other.out, asked.out_length, other.answer);
+    turnip_read(asked.text, asked.text_length, other.out, asked.out_length, other.answer);
     if (other.answer[TURNIP_NUMBER] == TURNIP_OVERFULL)
         other.answer[TURNIP_PLACE] = 0;
     compare(&asked);
@@ -176,7 +176,7 @@ static void compare_with_tidied(struct asked asked)
 {
     static uint8_t tidied[OUT_ROOM];
     uint32_t read[5];
-    turnip_tidy(asked.text, asked.text_length, tidied, sizeof tidied, read);
+    turnip_read(asked.text, asked.text_length, tidied, sizeof tidied, read);
     if (read[TURNIP_NUMBER] != TURNIP_READ || read[TURNIP_LENGTH] == asked.text_length)
         return;
     asked.compared = "the tidied text";
@@ -218,7 +218,7 @@ static void compare_case(uint64_t seed, uint64_t number)
     compare_with_twin(asked);
     count_annotated(&asked);
     compare_with_linked(asked);
-    compare_with_tidy(asked);
+    compare_with_read(asked);
     compare_with_tidied(asked);
 }
 

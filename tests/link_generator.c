@@ -318,8 +318,8 @@ static void put_cells(struct maker *maker, size_t cells)
     put_nothings(maker);
 }
 
-/* A text that CHECK refuses: with 17 for its 4,097 cells, rarely with 11, or for a fault among a few items. A token at one of its
-   edges may be right, and then so is the text. */
+/* A text that is not acceptable: for its 4,097 cells, rarely for its length, or for a fault among a few items. A token at one
+   of its edges may be right, and then so is the text. */
 static void put_bad_text(struct maker *maker)
 {
     static const char *const faulty[] = {

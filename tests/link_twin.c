@@ -176,7 +176,7 @@ static struct plan plan_of(struct list *list, struct bytes text)
     return plan;
 }
 
-/* "\"Acceptable\" means: CHECK answers READ." */
+/* "A text is acceptable when nothing but OUTSHORT could refuse it": the other twin reads it, and no output is asked about. */
 static void read_words(struct list *list)
 {
     for (size_t rank = 0; rank < list->whole; rank++) {

@@ -60,7 +60,7 @@ static struct roll roll;
 static struct text text;
 static struct side library, twin;
 static unsigned long seen[CALLS][NUMBERS];
-static unsigned long annotated_texts, annotated_entries; /* that were refused, though CHECK accepts the text */
+static unsigned long annotated_texts, annotated_entries; /* that were refused, though the text is acceptable */
 static uint64_t differences;
 
 /* ---- Telling. ---- */

@@ -28,7 +28,7 @@ struct piece {
    but for annotations. */
 enum text_kind { FINISHED, UNFINISHED, BLANKED, ANNOTATED, FAULTY };
 
-enum { CHECK_READ = 3, RUN_DONE = 0, RANDOM_TEXT_AT_MOST = 600, TRIES = 6 };
+enum { READ = 3, RUN_DONE = 0, RANDOM_TEXT_AT_MOST = 600, TRIES = 6 };
 
 /* No operator has its blocks just before it: too few of them, a token between, or letters in a token. A `&` in a token that does
    not start its text makes no annotation. */
@@ -134,7 +134,7 @@ static enum text_kind kind_of(const struct text *text)
     enum text_kind kind = run.number == RUN_DONE ? FINISHED : UNFINISHED;
     if (read.length != text->length)
         kind = opens_annotation(text->bytes, text->length) ? ANNOTATED : BLANKED;
-    if (read.number != CHECK_READ)
+    if (read.number != READ)
         kind = FAULTY;
     twin_free(&read);
     twin_free(&run);

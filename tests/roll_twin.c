@@ -12,7 +12,7 @@
 
 enum { FIRST_BYTE = 1, NUMBER_BYTES = 4, JOB_LIMIT = 10, CELLS_LIMIT = 4096 };
 enum { DONE_SECTIONS = 1, FILED_SECTIONS = 2 };
-enum { RUN_DONE = 0, CHECK_READ = 3 };
+enum { RUN_DONE = 0, READ = 3 };
 
 struct bytes {
     const uint8_t *start;
@@ -128,18 +128,17 @@ static bool same_job(struct bytes one, struct bytes other)
     return one.length == other.length && memcmp(one.start, other.start, one.length) == 0;
 }
 
-/* "byte for byte, the printed text of a plan that CHECK accepts": so "a roll's FILED text with an annotation is no printed text:
-   adding it is BADTEXT, and a whole entry that holds one is BADROLL", as it is longer than what is printed. */
+/* "byte for byte, the printed text of an acceptable text's plan": so "a roll's FILED text with an annotation is no printed
+   text: adding it is BADTEXT, and a whole entry that holds one is BADROLL", as it is longer than what is printed. */
 static bool is_printed_text(struct bytes text)
 {
     struct twin_result read = twin_read(text.start, text.length);
-    bool printed = read.number == CHECK_READ && read.length == text.length &&
-                   memcmp(read.printed, text.start, text.length) == 0;
+    bool printed = read.number == READ && read.length == text.length && memcmp(read.printed, text.start, text.length) == 0;
     twin_free(&read);
     return printed;
 }
 
-/* A run that may make no step is DONE exactly where no operator is ready; the text is one that CHECK accepts. */
+/* A run that may make no step is DONE exactly where no operator is ready; the text is an acceptable one. */
 static bool has_ready_operator(struct bytes text)
 {
     struct twin_result run = twin_run(text.start, text.length, 0, 4 * CELLS_LIMIT);

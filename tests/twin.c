@@ -504,18 +504,13 @@ struct twin_result twin_run(const uint8_t *text, size_t text_length, uint32_t qu
     return result;
 }
 
-void twin_tell(const struct twin_result *result, uint32_t answer[5])
+void twin_write(const struct twin_result *result, uint8_t *out, size_t out_length, uint32_t answer[5])
 {
     answer[0] = result->number;
     answer[1] = result->steps;
     answer[2] = result->cells;
     answer[3] = (uint32_t)result->length;
     answer[4] = result->place;
-}
-
-void twin_write(const struct twin_result *result, uint8_t *out, size_t out_length, uint32_t answer[5])
-{
-    twin_tell(result, answer);
     if (result->printed == NULL)
         return;
     if (result->length > out_length) {

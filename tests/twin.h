@@ -17,14 +17,11 @@ struct twin_result {
     size_t length;
 };
 
-/* CHECK, and TIDY before it writes. */
+/* READ before it writes. A text is acceptable where the number is 3, as only OUTSHORT is then still to be asked about. */
 struct twin_result twin_read(const uint8_t *text, size_t text_length);
 
 /* RUN before it writes. */
 struct twin_result twin_run(const uint8_t *text, size_t text_length, uint32_t quota, size_t memory_length);
-
-/* The five numbers, of a call that has no output. */
-void twin_tell(const struct twin_result *result, uint32_t answer[5]);
 
 /* The five numbers and the output, or OUTSHORT. */
 void twin_write(const struct twin_result *result, uint8_t *out, size_t out_length, uint32_t answer[5]);

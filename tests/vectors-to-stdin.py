@@ -19,19 +19,25 @@ reader serves all of them:
 
     KIND QUOTA MEMLEN OUTLEN NUMBER STEPS CELLS LENGTH PLACE TEXT OUT
 
-Fields are parted by one SP, and the last is ended by LF. KIND is 1 for check, 2 for tidy and 3 for run. What a
-kind has not, its line has as 0. Numbers are decimal. TEXT and OUT are bytes: the number of their runs, then for each run
-two fields, its LENGTH in bytes and its pattern in hex, which is repeated until LENGTH bytes are filled. No bytes are `0`.
-So `5b*3+5d` of base.txt is `2 3 5b 1 5d`, and `5b5d*2` is `1 4 5b5d`.
+Fields are parted by one SP, and the last is ended by LF. KIND is 1 for READ, which the cases of both check and tidy are run
+through, and 2 for RUN. A check case has no output of its own: it is lent one that is long enough, 1,000 bytes or as many as
+the printed text has (LONG_ENOUGH), and is to find there the text without its marks (tidied). What a kind has not, its line has
+as 0. Numbers are decimal. TEXT and OUT are bytes: the number of their runs, then for each run two fields, its LENGTH in bytes
+and its pattern in hex, which is repeated until LENGTH bytes are filled. No bytes are `0`. So `5b*3+5d` of base.txt is
+`2 3 5b 1 5d`, and `5b5d*2` is `1 4 5b5d`.
 """
 
+import re
 import sys
 
 from annotations import supposes_item
-from base_form import runs
+from base_form import expand, runs
 from name_faults import renumbered
 
-KINDS = {"check": 1, "tidy": 2, "run": 3}
+KINDS = {"check": 1, "tidy": 1, "run": 2}
+READ = "3"
+LONG_ENOUGH = 1000
+MARK_OR_TOKEN = re.compile(rb"[ \n]|\{&[^}]*\}|(\{[^}]*\})")
 BEFORE = "-"  # the rules of the time before request 1
 NOW = "sa"  # those since request 2
 
@@ -44,10 +50,25 @@ def bytes_form(field):
     return " ".join(words)
 
 
+def tidied(field):
+    """An accepted text without its marks: SP, LF and annotations, outside other tokens."""
+    left = MARK_OR_TOKEN.sub(lambda found: found[1] or b"", expand(field))
+    return field if left == expand(field) else left.hex() or "-"
+
+
+def with_output(given, answer):
+    """A check case as READ is asked: with an output that is long enough, and what it is to hold."""
+    out = tidied(given[0]) if answer[0] == READ else "-"
+    assert len(expand(out)) == int(answer[3])
+    return [*given, str(max(LONG_ENOUGH, int(answer[3])))], [*answer, out]
+
+
 def line_form(kind, given, answer):
     """A line of the form, from the fields on both sides of the `=`."""
+    if kind == "check":
+        given, answer = with_output(given, answer)
     text, *lent = given
-    numbers, out = answer[:5], answer[5] if len(answer) == 6 else "-"
+    numbers, out = answer[:5], answer[5]
     lent = ["0"] * (3 - len(lent)) + lent
     return " ".join([str(KINDS[kind]), *lent, *numbers, bytes_form(text), bytes_form(out)])
 

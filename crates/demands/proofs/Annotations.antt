@@ -1,5 +1,5 @@
 -- Request 2: a token whose text starts with `&` means nothing, like SP. "Demand 3 stands since saved texts hold no such token": no text that
--- TIDY or RUN saves holds one. And "taking them out doesn't change the plan": a text that reads gets the same answer without its marks,
+-- READ or RUN saves holds one. And "taking them out doesn't change the plan": a text that reads gets the same answer without its marks,
 -- and its output the same bytes.
 use Prim.Native.Nat.{ℕ}
 use mathlib.Core.Path.{_≡_, ap, sym, subst, _∙_}
@@ -13,21 +13,21 @@ use Rattle.plan.specs.declared.Refusal.the-variants.{OutShort}
 use Rattle.plan.specs.Pieces.{placed}
 use Rattle.plan.specs.Plan.{print}
 use Rattle.plan.specs.Reading.{HoldsAnnotation, OUTSIDE, without-marks}
-use Rattle.plan.specs.Services.{Outcome, Written, answer-of, check, run, runs, standard, tidy, write}
+use Rattle.plan.specs.Services.{Outcome, Written, read-out, run, runs, standard, write}
 use Rattle.plan.proofs.Annotations.{accept-without-marks, reads-without-marks, runs-without-marks}
 use Rattle.plan.proofs.ReadBack.{bare-placed}
 use Rattle.plan.proofs.Slots.{standard-roomy}
-use Rattle.services.specs.Calls.{Checks, Runs, Tidies}
+use Rattle.services.specs.Calls.{ReadsOut, Runs}
 use Rattle.demands.specs.Words.{Bare, Reads, Unrefused, lent, saved}
-use Rattle.demands.proofs.Cases.{TidyCase, bad-text, ended-saved, is-read, out-short, run-ended, tidy-case}
+use Rattle.demands.proofs.Cases.{ReadCase, bad-text, ended-saved, is-read, out-short, read-case, run-ended}
 use Rattle.demands.proofs.Meanings.{ends-sound, reads-one, reads-sound, sound-unannotated}
 use Rattle.demands.proofs.Numbers.{refusal-over}
 
 -- no saved text holds an annotation
-pub tidied-unannotated : {text out : List ℕ} {r : Answer} {out′ : List ℕ} → Tidies text out r out′ → Unrefused r → HoldsAnnotation (saved r out′) → ⊥
-tidied-unannotated {text} {out} call = go (tidy-case call)
+pub read-unannotated : {text out : List ℕ} {r : Answer} {out′ : List ℕ} → ReadsOut text out r out′ → Unrefused r → HoldsAnnotation (saved r out′) → ⊥
+read-unannotated {text} {out} call = go (read-case call)
   where
-    go : {r : Answer} {out′ : List ℕ} → TidyCase text out r out′ → Unrefused r → HoldsAnnotation (saved r out′) → ⊥
+    go : {r : Answer} {out′ : List ℕ} → ReadCase text out r out′ → Unrefused r → HoldsAnnotation (saved r out′) → ⊥
     go (bad-text {x} g) h = absurd (omega (arith, refusal-over x))
     go (out-short {p} g short) h = absurd (omega (arith, refusal-over (OutShort (length (print p)))))
     go (is-read {p} g fits) h =
@@ -54,15 +54,10 @@ pub same-but-for-marks : {n : ℕ} {text text₂ : List ℕ} {p q : Bare} → Re
 same-but-for-marks {n} {p = p} g h e = reads-one (subst (λ t. Reads n t p) e (without-marks-reads g)) (without-marks-reads h)
 
 -- so every service answers and leaves the same
-pub check-without-marks : {text : List ℕ} {r s : Answer} {p : Bare} → Checks text r → Checks (without-marks OUTSIDE text) s → Reads cellLimit text p → s ≡ r
-unfolding check
-check-without-marks {text} call bare g =
-    bare .answer ∙ ap answer-of (reads-without-marks standard standard-roomy text (g .accepted)) ∙ sym (call .answer)
-
-pub tidy-without-marks : {text out : List ℕ} {r s : Answer} {a b : List ℕ} {p : Bare} → Tidies text out r a → Tidies (without-marks OUTSIDE text) out s b
+pub read-without-marks : {text out : List ℕ} {r s : Answer} {a b : List ℕ} {p : Bare} → ReadsOut text out r a → ReadsOut (without-marks OUTSIDE text) out s b
     → Reads cellLimit text p → (s ≡ r) × (b ≡ a)
-unfolding tidy
-tidy-without-marks {text} {out} call bare g =
+unfolding read-out
+read-without-marks {text} {out} call bare g =
     let same = ap (λ (o : Outcome). write o out) (reads-without-marks standard standard-roomy text (g .accepted)) in (
       bare .answer ∙ ap (λ (w : Written). w .answer) same ∙ sym (call .answer),
       bare .output ∙ ap (λ (w : Written). w .output) same ∙ sym (call .output),

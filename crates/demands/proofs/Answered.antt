@@ -13,35 +13,20 @@ use Rattle.plan.specs.declared.Numbers.{Numbers}
 use Rattle.plan.specs.declared.Refusal.{Refusal}
 use Rattle.plan.specs.declared.Refusal.the-variants.{OutShort}
 use Rattle.plan.specs.Plan.{print}
-use Rattle.plan.specs.Refusals.{Refuses}
-use Rattle.plan.specs.Services.{check, cleared, numbers, run, standard, tidy}
+use Rattle.plan.specs.Services.{cleared, numbers, read-out, run, standard}
 use Rattle.plan.proofs.Answers.{refuses-iff}
 use Rattle.plan.proofs.Refusals.{refused-injective}
-use Rattle.services.specs.Calls.{Checks, Runs, Tidies}
-use Rattle.demands.specs.Table.{RunRefuses, TidyRefuses, row-18, rows-11-to-17}
+use Rattle.services.specs.Calls.{ReadsOut, Runs}
+use Rattle.demands.specs.Table.{ReadRefuses, RunRefuses, row-18, rows-11-to-17}
 use Rattle.demands.specs.Words.{Bare, FULL, IsRefusal, READ, lent, refusal}
-use Rattle.demands.proofs.Cases.{
-  CheckCase,
-  RunCase,
-  TidyCase,
-  bad-text,
-  check-case,
-  ended,
-  is-read,
-  out-short,
-  run-case,
-  tidy-case,
-}
+use Rattle.demands.proofs.Cases.{ReadCase, RunCase, bad-text, ended, is-read, out-short, read-case, run-case}
 use Rattle.demands.proofs.Meanings.{ends-same, reads-not-refused, reads-one}
 use Rattle.demands.proofs.Numbers.{ending-at-most, is-refusal, refusal-over, same-refusal}
 
 -- "Any text, quota, memory and output length gets an answer." The contracts ask nothing of the caller, and this is what meets them;
-pub every-check-answered : (text : List ℕ) → (r : Answer) × Checks text r
-every-check-answered text = (check standard text, record { answer = refl })
-
-pub every-tidy-answered : (text out : List ℕ) → (r : Answer) × (out′ : List ℕ) × Tidies text out r out′
-every-tidy-answered text out =
-    (tidy standard text out .answer, tidy standard text out .output, record { answer = refl; output = refl })
+pub every-read-answered : (text out : List ℕ) → (r : Answer) × (out′ : List ℕ) × ReadsOut text out r out′
+every-read-answered text out =
+    (read-out standard text out .answer, read-out standard text out .output, record { answer = refl; output = refl })
 
 pub every-run-answered : (text : List ℕ) (quota : ℕ) (memory out : List ℕ)
     → (r : Answer) × (memory′ : List ℕ) × (out′ : List ℕ) × Runs text quota memory out r memory′ out′
@@ -50,17 +35,10 @@ every-run-answered text quota memory out =
     (w .answer, cleared memory, w .output, record { answer = refl; output = refl; zeroed = refl })
 
 -- its number is one of the table: READ, or DONE, QUOTA or FULL, or a refusal's.
-pub check-number : {text : List ℕ} {r : Answer} → Checks text r → (numbers r .number ≡ READ) ⊎ IsRefusal r
-check-number {text} call = go (check-case call)
+pub read-number : {text out : List ℕ} {r : Answer} {out′ : List ℕ} → ReadsOut text out r out′ → (numbers r .number ≡ READ) ⊎ IsRefusal r
+read-number {text} {out} call = go (read-case call)
   where
-    go : {r : Answer} → CheckCase text r → (numbers r .number ≡ READ) ⊎ IsRefusal r
-    go (bad-text {x} h) = inr (x, refl)
-    go (is-read h) = inl refl
-
-pub tidy-number : {text out : List ℕ} {r : Answer} {out′ : List ℕ} → Tidies text out r out′ → (numbers r .number ≡ READ) ⊎ IsRefusal r
-tidy-number {text} {out} call = go (tidy-case call)
-  where
-    go : {r : Answer} {out′ : List ℕ} → TidyCase text out r out′ → (numbers r .number ≡ READ) ⊎ IsRefusal r
+    go : {r : Answer} {out′ : List ℕ} → ReadCase text out r out′ → (numbers r .number ≡ READ) ⊎ IsRefusal r
     go (bad-text {x} h) = inr (x, refl)
     go (out-short {p} h short) = inr (OutShort (length (print p)), refl)
     go (is-read h fits) = inl refl
@@ -75,24 +53,11 @@ run-number {text} {quota} {memory} {out} call = go (run-case call)
     go (ended {e} h fits) = inl (ending-at-most e)
 
 -- "Bad text is refused with a number and a place;" each refusal exactly when its row of the table says, with that row's place.
-pub check-refused : {text : List ℕ} {r : Answer} → Checks text r → (x : Refusal) → Refuses standard cellLimit text x ↔ (numbers r ≡ refusal x)
-check-refused {text} {r} call x = (λ h. ap numbers (to (check-case call) h), λ h. from (check-case call) (same-refusal r x h))
+pub read-refused : {text out : List ℕ} {r : Answer} {out′ : List ℕ} → ReadsOut text out r out′
+    → (x : Refusal) → ReadRefuses text out x ↔ (numbers r ≡ refusal x)
+read-refused {text} {out} {r} call x = (λ h. ap numbers (to (read-case call) h), λ h. from (read-case call) (same-refusal r x h))
   where
-    to : {r : Answer} → CheckCase text r → Refuses standard cellLimit text x → r ≡ Refused x
-    to (bad-text h) row = ap Refused (refused-injective (sym h ∙ refuses-iff standard cellLimit text x .1 row))
-    to (is-read h) row = reads-not-refused h (refuses-iff standard cellLimit text x .1 row)
-
-    from : {r : Answer} → CheckCase text r → r ≡ Refused x → Refuses standard cellLimit text x
-    from (bad-text {x = y} h) e =
-        let same : y ≡ x = cc in
-        subst (Refuses standard cellLimit text) same (refuses-iff standard cellLimit text y .0 h)
-    from (is-read h) e = absurd (let z : _≡_ {A = ℕ} 0 1 = cc in omega arith)
-
-pub tidy-refused : {text out : List ℕ} {r : Answer} {out′ : List ℕ} → Tidies text out r out′
-    → (x : Refusal) → TidyRefuses text out x ↔ (numbers r ≡ refusal x)
-tidy-refused {text} {out} {r} call x = (λ h. ap numbers (to (tidy-case call) h), λ h. from (tidy-case call) (same-refusal r x h))
-  where
-    to : {r : Answer} {out′ : List ℕ} {x : Refusal} → TidyCase text out r out′ → TidyRefuses text out x → r ≡ Refused x
+    to : {r : Answer} {out′ : List ℕ} {x : Refusal} → ReadCase text out r out′ → ReadRefuses text out x → r ≡ Refused x
     to (bad-text h) (rows-11-to-17 {x} row) = ap Refused (refused-injective (sym h ∙ refuses-iff standard cellLimit text x .1 row))
     to (bad-text h) (row-18 g short) = reads-not-refused g h
     to (out-short h short) (rows-11-to-17 {x} row) = reads-not-refused h (refuses-iff standard cellLimit text x .1 row)
@@ -100,13 +65,13 @@ tidy-refused {text} {out} {r} call x = (λ h. ap numbers (to (tidy-case call) h)
     to (is-read h fits) (rows-11-to-17 {x} row) = reads-not-refused h (refuses-iff standard cellLimit text x .1 row)
     to (is-read h fits) (row-18 g short) = absurd (omega (arith, ap (λ (p : Bare). length (print p)) (reads-one h g)))
 
-    from : {r : Answer} {out′ : List ℕ} → TidyCase text out r out′ → r ≡ Refused x → TidyRefuses text out x
+    from : {r : Answer} {out′ : List ℕ} → ReadCase text out r out′ → r ≡ Refused x → ReadRefuses text out x
     from (bad-text {x = y} h) e =
         let same : y ≡ x = cc in
-        subst (TidyRefuses text out) same (rows-11-to-17 (refuses-iff standard cellLimit text y .0 h))
+        subst (ReadRefuses text out) same (rows-11-to-17 (refuses-iff standard cellLimit text y .0 h))
     from (out-short {p} h short) e =
         let same : OutShort (length (print p)) ≡ x = cc in
-        subst (TidyRefuses text out) same (row-18 h short)
+        subst (ReadRefuses text out) same (row-18 h short)
     from (is-read h fits) e = absurd (let z : _≡_ {A = ℕ} 0 1 = cc in omega arith)
 
 pub run-refused : {text : List ℕ} {quota : ℕ} {memory out : List ℕ} {r : Answer} {memory′ out′ : List ℕ}
@@ -139,10 +104,10 @@ pub refusal-reports-no-steps : (r : Answer) → IsRefusal r → (numbers r .step
 refusal-reports-no-steps r h = rw (is-refusal r h .1) (refl, refl, refl)
 
 -- "changes no output byte"
-pub tidy-refusal-changes-no-output-byte : {text out : List ℕ} {r : Answer} {out′ : List ℕ} → Tidies text out r out′ → IsRefusal r → out′ ≡ out
-tidy-refusal-changes-no-output-byte {text} {out} call h = go (tidy-case call) h
+pub read-refusal-changes-no-output-byte : {text out : List ℕ} {r : Answer} {out′ : List ℕ} → ReadsOut text out r out′ → IsRefusal r → out′ ≡ out
+read-refusal-changes-no-output-byte {text} {out} call h = go (read-case call) h
   where
-    go : {r : Answer} {out′ : List ℕ} → TidyCase text out r out′ → IsRefusal r → out′ ≡ out
+    go : {r : Answer} {out′ : List ℕ} → ReadCase text out r out′ → IsRefusal r → out′ ≡ out
     go (bad-text g) h = refl
     go (out-short g short) h = refl
     go (is-read g fits) (x, h) = absurd (omega (arith, refusal-over x, ap (λ (v : Numbers). v .number) h))

@@ -22,37 +22,31 @@ use Rattle.plan.specs.Services.{
   GIVES,
   Written,
   accept,
-  answer-of,
   as-read,
   as-run,
-  check,
   numbers,
+  read-out,
   reads,
   run,
   run-read,
   runs,
   standard,
-  tidy,
   write,
 }
 use Rattle.plan.proofs.Plans.{cells-relabel, print-relabel}
 use Rattle.plan.proofs.Runs.{run-relabel}
 use Rattle.plan.proofs.Tests.{cond-cases}
-use Rattle.services.specs.Calls.{Checks, Runs, Tidies}
+use Rattle.services.specs.Calls.{ReadsOut, Runs}
 use Rattle.demands.specs.Words.{Bare, Ends, OUTSHORT, Reads, Rewritten, Unrefused, lent, saved}
 use Rattle.demands.proofs.Meanings.{ends-one, ends-rewritten, ends-same, reads-not-refused, rewritten-one}
 use Rattle.demands.proofs.Numbers.{ending-at-most, refusal-over}
 
-pub data CheckCase (text : List ℕ) : Answer → Type 0 where
-  bad-text : {x : Refusal} → accept standard cellLimit text ≡ REFUSED x → CheckCase text (Refused x)
-  is-read : {p : Bare} → Reads cellLimit text p → CheckCase text (Read (cells p) (length (print p)))
-
-pub data TidyCase (text out : List ℕ) : Answer → List ℕ → Type 0 where
-  bad-text : {x : Refusal} → accept standard cellLimit text ≡ REFUSED x → TidyCase text out (Refused x) out
+pub data ReadCase (text out : List ℕ) : Answer → List ℕ → Type 0 where
+  bad-text : {x : Refusal} → accept standard cellLimit text ≡ REFUSED x → ReadCase text out (Refused x) out
   out-short : {p : Bare} → Reads cellLimit text p → length out < length (print p)
-      → TidyCase text out (Refused (OutShort (length (print p)))) out
+      → ReadCase text out (Refused (OutShort (length (print p)))) out
   is-read : {p : Bare} → Reads cellLimit text p → length (print p) ≤ length out
-      → TidyCase text out (Read (cells p) (length (print p))) (print p ++ drop (length (print p)) out)
+      → ReadCase text out (Read (cells p) (length (print p))) (print p ++ drop (length (print p)) out)
 
 pub data RunCase (n quota : ℕ) (text out : List ℕ) : Answer → List ℕ → Type 0 where
   bad-text : {x : Refusal} → accept standard n text ≡ REFUSED x → RunCase n quota text out (Refused x) out
@@ -85,24 +79,16 @@ as-run-bare : (e : Ending) (steps : ℕ) (q : Plan ℕ)
 unfolding as-run
 as-run-bare e steps q = rw (cells-relabel (λ l. tt {0}) q, print-relabel (λ l. tt {0}) q)
 
-check-cases : (text : List ℕ) → CheckCase text (check standard text)
-unfolding check reads answer-of as-read
-check-cases text = by-reading (accept standard cellLimit text) refl
-  where
-    by-reading : (x : Reading) → accept standard cellLimit text ≡ x → CheckCase text (answer-of (as-read x))
-    by-reading (REFUSED x) h = bad-text h
-    by-reading (PLAN p) h = subst (λ o. CheckCase text (answer-of o)) (sym (as-read-bare p)) (is-read (reads-bare cellLimit text h))
-
-tidy-cases : (text out : List ℕ) → TidyCase text out (tidy standard text out .answer) (tidy standard text out .output)
-unfolding tidy reads as-read write
-tidy-cases text out = by-reading (accept standard cellLimit text) refl
+read-cases : (text out : List ℕ) → ReadCase text out (read-out standard text out .answer) (read-out standard text out .output)
+unfolding read-out reads as-read write
+read-cases text out = by-reading (accept standard cellLimit text) refl
   where
     by-reading : (x : Reading) → accept standard cellLimit text ≡ x
-        → TidyCase text out (write (as-read x) out .answer) (write (as-read x) out .output)
+        → ReadCase text out (write (as-read x) out .answer) (write (as-read x) out .output)
     by-reading (REFUSED x) h = bad-text h
     by-reading (PLAN p) h =
-        subst (λ o. TidyCase text out (write o out .answer) (write o out .output)) (sym (as-read-bare p))
-        (write-gives (TidyCase text out) _ (print (bare p)) out (out-short (reads-bare cellLimit text h)) (is-read (reads-bare cellLimit text h)))
+        subst (λ o. ReadCase text out (write o out .answer) (write o out .output)) (sym (as-read-bare p))
+        (write-gives (ReadCase text out) _ (print (bare p)) out (out-short (reads-bare cellLimit text h)) (is-read (reads-bare cellLimit text h)))
 
 run-cases : (n quota : ℕ) (text out : List ℕ)
     → RunCase n quota text out (write (runs standard n quota text) out .answer) (write (runs standard n quota text) out .output)
@@ -121,11 +107,8 @@ run-cases n quota text out = by-reading (accept standard n text) refl
     by-reading (REFUSED x) h = bad-text h
     by-reading (PLAN p) h = by-run p h (run-plan n quota p) refl
 
-pub check-case : {text : List ℕ} {r : Answer} → Checks text r → CheckCase text r
-check-case {text} call = rw (call .answer) (check-cases text)
-
-pub tidy-case : {text out : List ℕ} {r : Answer} {out′ : List ℕ} → Tidies text out r out′ → TidyCase text out r out′
-tidy-case {text} {out} call = rw (call .answer, call .output) (tidy-cases text out)
+pub read-case : {text out : List ℕ} {r : Answer} {out′ : List ℕ} → ReadsOut text out r out′ → ReadCase text out r out′
+read-case {text} {out} call = rw (call .answer, call .output) (read-cases text out)
 
 pub run-case : {text : List ℕ} {quota : ℕ} {memory out : List ℕ} {r : Answer} {memory′ out′ : List ℕ}
     → Runs text quota memory out r memory′ out′ → RunCase (lent memory) quota text out r out′

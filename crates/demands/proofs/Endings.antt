@@ -18,7 +18,7 @@ use Rattle.plan.specs.Running.{Leads}
 use Rattle.plan.specs.Services.{ending-number, numbers}
 use Rattle.plan.proofs.Rewrites.{finished-iff}
 use Rattle.plan.proofs.Runs.{Stops, run-quota-steps, run-steps, run-stops}
-use Rattle.services.specs.Calls.{Checks, Runs, Tidies}
+use Rattle.services.specs.Calls.{ReadsOut, Runs}
 use Rattle.demands.specs.Words.{
   Bare,
   DONE,
@@ -33,20 +33,7 @@ use Rattle.demands.specs.Words.{
   lent,
   saved,
 }
-use Rattle.demands.proofs.Cases.{
-  CheckCase,
-  EndedRun,
-  TidyCase,
-  bad-text,
-  check-case,
-  ended-plan,
-  ended-rewritten,
-  ended-saved,
-  is-read,
-  out-short,
-  run-ended,
-  tidy-case,
-}
+use Rattle.demands.proofs.Cases.{EndedRun, ReadCase, bad-text, ended-plan, ended-rewritten, ended-saved, is-read, out-short, read-case, run-ended}
 use Rattle.demands.proofs.Meanings.{ends-sound, ends-way, reads-one, reads-sound, sound-back}
 use Rattle.demands.proofs.Numbers.{refusal-over, same-ending}
 
@@ -124,22 +111,13 @@ module _ {text : List ℕ} {quota : ℕ} {memory out : List ℕ} {r : Answer} {m
     pub text-first : out′ ≡ print q ++ drop (length (print q)) out
     text-first = rw (← ended-plan run its-plan) (run .left)
 
--- CHECK and TIDY read and print too: READ, "text accepted, finished or not".
-pub check-reads : {text : List ℕ} {r : Answer} → Checks text r → Unrefused r
-    → (p : Bare) × Reads cellLimit text p × (numbers r .cells ≡ cells p) × (numbers r .length ≡ length (print p))
-check-reads {text} call unrefused = go (check-case call) unrefused
-  where
-    go : {r : Answer} → CheckCase text r → Unrefused r
-        → (p : Bare) × Reads cellLimit text p × (numbers r .cells ≡ cells p) × (numbers r .length ≡ length (print p))
-    go (bad-text {x} h) u = absurd (omega (arith, refusal-over x))
-    go (is-read {p} h) u = (p, h, refl, refl)
-
-pub tidy-reads-prints : {text out : List ℕ} {r : Answer} {out′ : List ℕ} → Tidies text out r out′ → Unrefused r
+-- READ reads and prints too: "text accepted, finished or not".
+pub read-reads-prints : {text out : List ℕ} {r : Answer} {out′ : List ℕ} → ReadsOut text out r out′ → Unrefused r
     → (p : Bare) × Reads cellLimit text p × (numbers r .cells ≡ cells p) × (numbers r .length ≡ length (print p))
     × (out′ ≡ print p ++ drop (length (print p)) out) × Reads cellLimit (saved r out′) p
-tidy-reads-prints {text} {out} call unrefused = go (tidy-case call) unrefused
+read-reads-prints {text} {out} call unrefused = go (read-case call) unrefused
   where
-    go : {r : Answer} {out′ : List ℕ} → TidyCase text out r out′ → Unrefused r
+    go : {r : Answer} {out′ : List ℕ} → ReadCase text out r out′ → Unrefused r
         → (p : Bare) × Reads cellLimit text p × (numbers r .cells ≡ cells p) × (numbers r .length ≡ length (print p))
         × (out′ ≡ print p ++ drop (length (print p)) out) × Reads cellLimit (saved r out′) p
     go (bad-text {x} h) u = absurd (omega (arith, refusal-over x))
@@ -147,18 +125,11 @@ tidy-reads-prints {text} {out} call unrefused = go (tidy-case call) unrefused
     go (is-read {p} h fits) u =
         (p, h, refl, refl, refl, rw (take-append-seam (print p) (drop (length (print p)) out)) (sound-back (reads-sound h)))
 
--- "Steps are 0 for CHECK and TIDY", whatever they answer,
-pub check-steps : {text : List ℕ} {r : Answer} → Checks text r → numbers r .steps ≡ 0
-check-steps {text} call = go (check-case call)
+-- Steps are 0 for READ, whatever it answers,
+pub read-steps : {text out : List ℕ} {r : Answer} {out′ : List ℕ} → ReadsOut text out r out′ → numbers r .steps ≡ 0
+read-steps {text} {out} call = go (read-case call)
   where
-    go : {r : Answer} → CheckCase text r → numbers r .steps ≡ 0
-    go (bad-text h) = refl
-    go (is-read h) = refl
-
-pub tidy-steps : {text out : List ℕ} {r : Answer} {out′ : List ℕ} → Tidies text out r out′ → numbers r .steps ≡ 0
-tidy-steps {text} {out} call = go (tidy-case call)
-  where
-    go : {r : Answer} {out′ : List ℕ} → TidyCase text out r out′ → numbers r .steps ≡ 0
+    go : {r : Answer} {out′ : List ℕ} → ReadCase text out r out′ → numbers r .steps ≡ 0
     go (bad-text h) = refl
     go (out-short h short) = refl
     go (is-read h fits) = refl

@@ -3,12 +3,13 @@
 use Prim.Native.Nat.{ℕ, _*_}
 use mathlib.Core.Path.{_≡_, refl}
 use mathlib.Core.Logic.{_≢_}
+use mathlib.Core.Bool.{true, false}
 use mathlib.Core.List.{List, [], _∷_, _++_}
 use native.Mathlib.Omega.{arith}
 use lib.ListN.{length, replicate}
 use Rattle.kinds.specs.Limits.{cellNumbers}
 use Rattle.plan.specs.declared.Answer.{Answer}
-use Rattle.plan.specs.declared.Answer.the-variants.{Ran, Refused}
+use Rattle.plan.specs.declared.Answer.the-variants.{Ran, Read, Refused}
 use Rattle.plan.specs.declared.Ending.{Ending}
 use Rattle.plan.specs.declared.Ending.the-variants.{Done, Quota, Full}
 use Rattle.plan.specs.declared.Operator.the-variants.{D}
@@ -20,22 +21,22 @@ use Rattle.plan.specs.Reading.{HoldsAnnotation, OUTSIDE, class, enter, fit, go-
 use Rattle.plan.specs.Options.{_else_, under}
 use Rattle.plan.specs.Rewriting.{after-two, first-block, inner, next, outer}
 use Rattle.plan.specs.Running.{ask, one-more, run-plan, turn}
-use Rattle.plan.specs.Services.{GIVES, accept, as-read, as-run, cleared, numbers, reads, run, run-read, runs, standard, tidy, write}
+use Rattle.plan.specs.Services.{GIVES, accept, acceptable, as-read, as-run, cleared, is-given, numbers, read-out, reads, run, run-read, runs, standard, write}
 use Rattle.plan.specs.Slots.{after, next-slot, plus-steps, slots, total}
 use Rattle.plan.specs.Worked.{bytes}
-use Rattle.services.specs.Calls.{Runs, Tidies}
+use Rattle.services.specs.Calls.{ReadsOut, Runs}
 use Rattle.turnip.specs.Stored.{Answers}
 use Rattle.demands.specs.Demanded.{AsDemanded}
 use Rattle.demands.specs.Slots.{Slot, Slots, first, only}
-use Rattle.demands.specs.Table.{RunRefuses, TidyRefuses}
+use Rattle.demands.specs.Table.{ReadRefuses, RunRefuses}
 use Rattle.demands.specs.Words.{Bare, DONE, Ends, IsRefusal, NextFits, NextHasMoreThan, NoRuleApplies, OUTSHORT, Reads, Rewritten, Unrefused, saved}
-use Rattle.demands.proofs.Answered.{run-refused, tidy-refused}
+use Rattle.demands.proofs.Answered.{read-refused, run-refused}
 use Rattle.demands.proofs.Cases.{run-ended}
 use Rattle.demands.proofs.Endings.{done-exactly-when, full-exactly-when, quota-exactly-when, reads-rewrites-prints}
 use Rattle.demands.proofs.OneAnswer.{run-as-demanded}
 
 -- P6 as a whole run and as two slots, the second of which begins with P7's text; `[{x}]c` with its own three cells; a block left open;
--- and P6 with no output
+-- and P6, and the empty plan, with no output
 abbrev p6 : List ℕ
 p6 = bytes "[{x}][{y}][]ba"
 
@@ -44,6 +45,10 @@ p7 = bytes "[{x}][[{y}]]a"
 
 abbrev ended : List ℕ
 ended = bytes "[{y}][{x}]"
+
+-- a text with marks
+abbrev spaced : List ℕ
+spaced = bytes "[ {x}]{&j}"
 
 -- any numbers, as many as so many cells have
 abbrev memory : (lent : ℕ) → List ℕ
@@ -62,8 +67,9 @@ pub calls : Runs p6 2 (memory 7) out (Ran Done 2 4 10) (zeroed 7) (ended ++ repl
     × Runs (bytes "[") 9 (memory 7) out (Refused (Text (Unclosed (place 1)))) (zeroed 7) out
     × Runs p6 2 (memory 7) [] (Refused (OutShort 10)) (zeroed 7) []
     × (slots standard 7 1 (1 ∷ []) p6 ≡ GIVES (Ran Done 2 4 10) ended)
-    × Tidies (bytes "[") out (Refused (Text (Unclosed (place 1)))) out × Tidies p6 [] (Refused (OutShort 14)) []
-unfolding slots next-slot after plus-steps cleared run runs run-read tidy reads as-read as-run accept write read read-from go-on move past-token mark annotation fit class token-text if-allowed before-brace allowed all-permitted permits may-hold character value follows scalar well-formed cells labels print letter _then_ run-plan turn ask one-more next outer inner first-block after-two under _else_ bytes
+    × ReadsOut (bytes "[") out (Refused (Text (Unclosed (place 1)))) out × ReadsOut p6 [] (Refused (OutShort 14)) []
+    × ReadsOut (bytes "{&j}") [] (Read 0 0) [] × ReadsOut spaced out (Read 2 5) (bytes "[{x}]" ++ replicate 11 7)
+unfolding slots next-slot after plus-steps cleared run runs run-read read-out reads as-read as-run accept write read read-from go-on move past-token mark annotation fit class token-text if-allowed before-brace allowed all-permitted permits may-hold character value follows scalar well-formed cells labels print letter _then_ run-plan turn ask one-more next outer inner first-block after-two under _else_ bytes
 calls = (
   record { answer = refl; output = refl; zeroed = refl },
   record { answer = refl; output = refl; zeroed = refl },
@@ -72,6 +78,8 @@ calls = (
   record { answer = refl; output = refl; zeroed = refl },
   record { answer = refl; output = refl; zeroed = refl },
   refl,
+  record { answer = refl; output = refl },
+  record { answer = refl; output = refl },
   record { answer = refl; output = refl },
   record { answer = refl; output = refl },
 )
@@ -112,15 +120,20 @@ pub as-demanded : AsDemanded 7 2 p6 DONE 2 ended
 unfolding bytes
 as-demanded = run-as-demanded (calls .0) (a-done-run .0)
 
--- refusals, by both rows of `RunRefuses` and of `TidyRefuses`
+-- refusals, by both rows of `RunRefuses` and of `ReadRefuses`
 pub a-refusal : IsRefusal (Refused (OutShort 10)) × (Unrefused (Refused (OutShort 10)) → ⊥)
 a-refusal = ((OutShort 10, refl), λ u. omega arith)
 
 pub refused-runs : RunRefuses 7 9 (bytes "[") out (Text (Unclosed (place 1))) × RunRefuses 7 2 p6 [] (OutShort 10)
 refused-runs = (run-refused (calls .4) (Text (Unclosed (place 1))) .1 refl, run-refused (calls .5) (OutShort 10) .1 refl)
 
-pub refused-tidyings : TidyRefuses (bytes "[") out (Text (Unclosed (place 1))) × TidyRefuses p6 [] (OutShort 14)
-refused-tidyings = (tidy-refused (calls .7) (Text (Unclosed (place 1))) .1 refl, tidy-refused (calls .8) (OutShort 14) .1 refl)
+pub refused-readings : ReadRefuses (bytes "[") out (Text (Unclosed (place 1))) × ReadRefuses p6 [] (OutShort 14)
+refused-readings = (read-refused (calls .7) (Text (Unclosed (place 1))) .1 refl, read-refused (calls .8) (OutShort 14) .1 refl)
+
+-- acceptable texts, and one that is not
+pub acceptable-and-not : (acceptable standard p6 ≡ true) × (acceptable standard spaced ≡ true) × (acceptable standard (bytes "[") ≡ false)
+unfolding calls acceptable is-given
+acceptable-and-not = (refl, refl, refl)
 
 -- P6 in two slots of quota 1, which are its quota of 2
 slot : {text : List ℕ} {quota : ℕ} {r : Answer} {out′ : List ℕ} → Runs text quota (memory 7) out r (zeroed 7) out′

@@ -1,3 +1,4 @@
+pub mod Acceptable
 pub mod Annotations
 pub mod Answered
 pub mod Cases

@@ -3,6 +3,7 @@ use Prim.Native.Nat.{ℕ, _≤_, _<_}
 use mathlib.Core.Path.{_≡_, refl, ap, sym, _∙_}
 use mathlib.Core.Logic.{_≢_}
 use mathlib.Core.Bool.{cond}
+use mathlib.Core.List.{List}
 use native.Mathlib.Omega.{arith}
 use lib.Dec.{eqb}
 use borrow.Author.Needs.{needs}
@@ -18,8 +19,9 @@ use Rattle.plan.specs.declared.TokenFault.{TokenFault}
 use Rattle.plan.specs.declared.TokenFault.the-variants.{Empty, Long, BadUtf8, Forbidden, InnerBrace}
 use Rattle.plan.specs.declared.TextFault.{TextFault}
 use Rattle.plan.specs.declared.TextFault.the-variants.{TooLong, BadByte, BadToken, Unmatched, Unclosed}
-use Rattle.plan.specs.Reading.{place}
-use Rattle.plan.specs.Services.{ending-number, fault-number, fault-place, numbers, refusal-number, refusal-place, token-fault-number}
+use Rattle.plan.specs.Reading.{REFUSED, place}
+use Rattle.plan.specs.Services.{accept, ending-number, fault-number, fault-place, numbers, refusal-number, refusal-place, standard, token-fault-number}
+use Rattle.plan.proofs.Acceptable.{refused-not-outshort}
 use Rattle.demands.specs.Words.{DONE, FULL, IsRefusal, OUTSHORT, OVERFULL, QUOTA, READ, TOOLONG, refusal}
 
 pub ending-at-most : (e : Ending) → ending-number e ≤ FULL
@@ -70,6 +72,13 @@ refusal-over (Text f) = omega (arith, fault-number-is f .low)
 refusal-over BadArena = omega arith
 refusal-over (Overfull at) = omega arith
 refusal-over (OutShort needed) = omega arith
+
+-- 18 is never the number of what refuses a text by itself
+pub number-not-outshort : (n : ℕ) (text : List ℕ) (x : Refusal) → accept standard n text ≡ REFUSED x → refusal-number x ≢ OUTSHORT
+number-not-outshort n text (Text f) h e = fault-number-is f .no-outshort e
+number-not-outshort n text BadArena h e = omega arith
+number-not-outshort n text (Overfull at) h e = omega arith
+number-not-outshort n text (OutShort needed) h e = refused-not-outshort standard n text h
 
 -- the fault, or the refusal, with that number and place
 token-fault-with : ℕ → TokenFault

@@ -17,7 +17,7 @@ use Rattle.plan.specs.Rewriting.{next}
 use Rattle.plan.specs.Running.{Leads}
 use Rattle.plan.specs.Services.{cleared, numbers, run, standard}
 use Rattle.plan.proofs.Rewrites.{finished-iff}
-use Rattle.services.specs.Calls.{Checks, Runs, Tidies}
+use Rattle.services.specs.Calls.{ReadsOut, Runs}
 use Rattle.turnip.specs.Stored.{Answers, five}
 use Rattle.demands.specs.Demanded.{AsDemanded}
 use Rattle.demands.specs.Words.{Bare, NextFits, NextHasMoreThan, NoRuleApplies, Rewritten, Unrefused, lent, saved}
@@ -31,12 +31,9 @@ use Rattle.demands.proofs.Endings.{
 }
 use Rattle.demands.proofs.Meanings.{rewritten-one}
 
-pub check-one-answer : {text : List ℕ} {r s : Answer} → Checks text r → Checks text s → r ≡ s
-check-one-answer g h = g .answer ∙ sym (h .answer)
-
-pub tidy-one-answer : {text out : List ℕ} {r s : Answer} {left left′ : List ℕ} → Tidies text out r left → Tidies text out s left′
+pub read-one-answer : {text out : List ℕ} {r s : Answer} {left left′ : List ℕ} → ReadsOut text out r left → ReadsOut text out s left′
     → (r ≡ s) × (left ≡ left′)
-tidy-one-answer g h = (g .answer ∙ sym (h .answer), g .output ∙ sym (h .output))
+read-one-answer g h = (g .answer ∙ sym (h .answer), g .output ∙ sym (h .output))
 
 -- "What it held before has no effect": two work memories of the same length, with any numbers in them.
 pub run-one-answer : {text : List ℕ} {quota : ℕ} {memory memory₂ out : List ℕ} {r s : Answer} {zeroed zeroed₂ left left₂ : List ℕ}
@@ -50,14 +47,10 @@ run-one-answer {text} {quota} {out = out} g h same = (
 )
 
 -- Over the C interface, where the answer is told by five numbers in the caller's array, as well.
-pub check-stored-once : {text stored stored₂ : List ℕ} → Answers (λ r. Checks text r) stored → Answers (λ r. Checks text r) stored₂
-    → stored ≡ stored₂
-check-stored-once g h = g .told ∙ ap (λ r. five (numbers r)) (check-one-answer (g .did) (h .did)) ∙ sym (h .told)
-
-pub tidy-stored-once : {text out left left′ stored stored₂ : List ℕ} → Answers (λ r. Tidies text out r left) stored
-    → Answers (λ r. Tidies text out r left′) stored₂ → (stored ≡ stored₂) × (left ≡ left′)
-tidy-stored-once g h =
-    let same = tidy-one-answer (g .did) (h .did) in (g .told ∙ ap (λ r. five (numbers r)) (same .0) ∙ sym (h .told), same .1)
+pub read-stored-once : {text out left left′ stored stored₂ : List ℕ} → Answers (λ r. ReadsOut text out r left) stored
+    → Answers (λ r. ReadsOut text out r left′) stored₂ → (stored ≡ stored₂) × (left ≡ left′)
+read-stored-once g h =
+    let same = read-one-answer (g .did) (h .did) in (g .told ∙ ap (λ r. five (numbers r)) (same .0) ∙ sym (h .told), same .1)
 
 pub run-stored-once : {text : List ℕ} {quota : ℕ} {memory memory₂ out zeroed zeroed₂ left left₂ stored stored₂ : List ℕ}
     → Answers (λ r. Runs text quota memory out r zeroed left) stored → Answers (λ r. Runs text quota memory₂ out r zeroed₂ left₂) stored₂

@@ -1,8 +1,8 @@
 -- Request 1: "All above the token reader pass this on." What is wrong with a text, a token's fault among it, is told with the same number and
--- place by CHECK, TIDY and RUN: whatever the output, and as many cells as a memory may lend.
+-- place by READ and RUN: whatever the output, and as many cells as a memory may lend.
 use Prim.Native.Nat.{ℕ, _≤_}
 use mathlib.Core.Path.{_≡_, refl, subst}
-use mathlib.Core.Logic.{_↔_}
+use mathlib.Core.Logic.{_↔_, _≢_}
 use mathlib.Core.List.{List}
 use native.Mathlib.Omega.{arith}
 use Rattle.kinds.specs.Limits.{cellLimit}
@@ -11,12 +11,13 @@ use Rattle.plan.specs.declared.Refusal.{Refusal}
 use Rattle.plan.specs.declared.Refusal.the-variants.{Text}
 use Rattle.plan.specs.declared.TextFault.{TextFault}
 use Rattle.plan.specs.Refusals.{Refuses, Row, bad-arena, bad-text, fault, overfull, too-long, unclosed}
-use Rattle.plan.specs.Services.{numbers, standard}
+use Rattle.plan.specs.Services.{numbers, refusal-number, standard}
 use Rattle.plan.proofs.Tests.{never}
-use Rattle.services.specs.Calls.{Checks, Runs, Tidies}
-use Rattle.demands.specs.Table.{RunRefuses, TidyRefuses, row-18, rows-11-to-17}
-use Rattle.demands.specs.Words.{lent, refusal}
-use Rattle.demands.proofs.Answered.{check-refused, run-refused, tidy-refused}
+use Rattle.services.specs.Calls.{ReadsOut, Runs}
+use Rattle.demands.specs.Table.{ReadRefuses, RunRefuses, row-18, rows-11-to-17}
+use Rattle.demands.specs.Words.{OUTSHORT, lent, refusal}
+use Rattle.demands.proofs.Answered.{read-refused, run-refused}
+use Rattle.demands.proofs.Numbers.{fault-number-is}
 
 -- the rows of a text's faults do not look at the cells lent
 pub same-row : {limit n : ℕ} {text : List ℕ} {x : Refusal} {f : TextFault} (m : ℕ) → Row limit n text x → x ≡ Text f → Row limit m text (Text f)
@@ -30,22 +31,27 @@ same-fault {m = m} {text = text} few (too-long long) e = subst (Refuses standard
 same-fault few (bad-arena short many) e = never cc
 same-fault {m = m} few (bad-text short few′ row) e = bad-text short few (same-row m row e)
 
-pub tidy-passes-on : {text out : List ℕ} {c r : Answer} {out′ : List ℕ} → Checks text c → Tidies text out r out′ → (f : TextFault)
-    → (numbers c ≡ refusal (Text f)) ↔ (numbers r ≡ refusal (Text f))
-tidy-passes-on {text} {out} checks tidies f = (
-  λ told. tidy-refused tidies (Text f) .0 (rows-11-to-17 (check-refused checks (Text f) .1 told)),
-  λ told. check-refused checks (Text f) .0 (go (tidy-refused tidies (Text f) .1 told) refl),
+-- READ tells what is wrong with a text as the table says, whatever the output
+pub read-refuses : {text out : List ℕ} {r : Answer} {out′ : List ℕ} → ReadsOut text out r out′ → (x : Refusal) → refusal-number x ≢ OUTSHORT
+    → Refuses standard cellLimit text x ↔ (numbers r ≡ refusal x)
+read-refuses {text} {out} call x other = (
+  λ row. read-refused call x .0 (rows-11-to-17 row),
+  λ told. go (read-refused call x .1 told) other,
 )
   where
-    go : {x : Refusal} → TidyRefuses text out x → x ≡ Text f → Refuses standard cellLimit text (Text f)
-    go (rows-11-to-17 row) e = same-fault (omega arith) row e
-    go (row-18 reads short) e = never cc
+    go : {x : Refusal} → ReadRefuses text out x → refusal-number x ≢ OUTSHORT → Refuses standard cellLimit text x
+    go (rows-11-to-17 row) other = row
+    go (row-18 reads short) other = absurd (other refl)
 
-pub run-passes-on : {text : List ℕ} {quota : ℕ} {memory out : List ℕ} {c r : Answer} {memory′ out′ : List ℕ} → Checks text c
+pub read-fault : {text out : List ℕ} {r : Answer} {out′ : List ℕ} → ReadsOut text out r out′ → (f : TextFault)
+    → Refuses standard cellLimit text (Text f) ↔ (numbers r ≡ refusal (Text f))
+read-fault call f = read-refuses call (Text f) (fault-number-is f .no-outshort)
+
+pub run-passes-on : {text : List ℕ} {quota : ℕ} {memory out out₂ : List ℕ} {c r : Answer} {memory′ out′ out₂′ : List ℕ} → ReadsOut text out₂ c out₂′
     → Runs text quota memory out r memory′ out′ → lent memory ≤ cellLimit → (f : TextFault) → (numbers c ≡ refusal (Text f)) ↔ (numbers r ≡ refusal (Text f))
-run-passes-on {text} {quota} {memory} {out} checks runs few f = (
-  λ told. run-refused runs (Text f) .0 (rows-11-to-17 (same-fault few (check-refused checks (Text f) .1 told) refl)),
-  λ told. check-refused checks (Text f) .0 (go (run-refused runs (Text f) .1 told) refl),
+run-passes-on {text} {quota} {memory} {out} read run few f = (
+  λ told. run-refused run (Text f) .0 (rows-11-to-17 (same-fault few (read-fault read f .1 told) refl)),
+  λ told. read-fault read f .0 (go (run-refused run (Text f) .1 told) refl),
 )
   where
     go : {x : Refusal} → RunRefuses (lent memory) quota text out x → x ≡ Text f → Refuses standard cellLimit text (Text f)

@@ -13,37 +13,21 @@ use Rattle.plan.specs.Plan.{cells, print}
 use Rattle.plan.specs.Refusals.{Refuses, bad-arena, bad-byte, bad-text as bad-row, bad-token, fault, overfull, too-long, unclosed, unmatched}
 use Rattle.plan.specs.Services.{numbers, refusal-number, standard}
 use Rattle.plan.proofs.Answers.{refuses-iff}
-use Rattle.services.specs.Calls.{Checks, Runs, Tidies}
+use Rattle.services.specs.Calls.{ReadsOut, Runs}
 use Rattle.demands.specs.Words.{OUTSHORT, OVERFULL, Reads, TOOLONG, Unrefused, lent, saved}
-use Rattle.demands.proofs.Cases.{
-  CheckCase,
-  EndedRun,
-  RunCase,
-  TidyCase,
-  bad-text,
-  check-case,
-  ended,
-  ended-saved,
-  is-read,
-  out-short,
-  run-case,
-  run-ended,
-  tidy-case,
-}
+use Rattle.demands.proofs.Cases.{EndedRun, ReadCase, RunCase, bad-text, ended, ended-saved, is-read, out-short, read-case, run-case, run-ended}
 use Rattle.demands.proofs.Meanings.{ends-sound, reads-not-refused, sound-back, sound-cells, sound-length}
-use Rattle.demands.proofs.Numbers.{ending-at-most, token-fault-range}
+use Rattle.demands.proofs.Numbers.{ending-at-most, number-not-outshort, token-fault-range}
 
--- no row of a text has the number 18, and 11 is not for a text within its limit
-row-number : {n : ℕ} {text : List ℕ} {x : Refusal} → Refuses standard n text x
-    → (refusal-number x ≢ OUTSHORT) × (length text ≤ textLimit → refusal-number x ≢ TOOLONG)
-row-number (too-long h) = (λ e. omega arith, λ short e. omega arith)
-row-number (bad-arena h g) = (λ e. omega arith, λ short e. omega arith)
-row-number (bad-row h g (fault before rest b split f (bad-byte c))) = (λ e. omega arith, λ short e. omega arith)
-row-number (bad-row h g (fault before rest b split f (bad-token {f = t} c first))) =
-    (λ e. omega (arith, token-fault-range t), λ short e. omega (arith, token-fault-range t))
-row-number (bad-row h g (fault before rest b split f (unmatched c))) = (λ e. omega arith, λ short e. omega arith)
-row-number (bad-row h g (unclosed f)) = (λ e. omega arith, λ short e. omega arith)
-row-number (bad-row h g (overfull before rest b split f i w)) = (λ e. omega arith, λ short e. omega arith)
+-- 11 is not for a text within its limit
+row-number : {n : ℕ} {text : List ℕ} {x : Refusal} → length text ≤ textLimit → Refuses standard n text x → refusal-number x ≢ TOOLONG
+row-number short (too-long h) e = omega arith
+row-number short (bad-arena h g) e = omega arith
+row-number short (bad-row h g (fault before rest b split f (bad-byte c))) e = omega arith
+row-number short (bad-row h g (fault before rest b split f (bad-token {f = t} c first))) e = omega (arith, token-fault-range t)
+row-number short (bad-row h g (fault before rest b split f (unmatched c))) e = omega arith
+row-number short (bad-row h g (unclosed f)) e = omega arith
+row-number short (bad-row h g (overfull before rest b split f i w)) e = omega arith
 
 module _ {text : List ℕ} {quota : ℕ} {memory out : List ℕ} {r : Answer} {memory′ out′ : List ℕ}
     (call : Runs text quota memory out r memory′ out′) where
@@ -52,7 +36,7 @@ module _ {text : List ℕ} {quota : ℕ} {memory out : List ℕ} {r : Answer} {m
   output-long-enough room = go (run-case call)
     where
       go : {r : Answer} {out′ : List ℕ} → RunCase (lent memory) quota text out r out′ → numbers r .number ≢ OUTSHORT
-      go (bad-text {x} g) e = row-number (refuses-iff standard (lent memory) text x .0 g) .0 e
+      go (bad-text {x} g) e = number-not-outshort (lent memory) text x g e
       go (out-short g short) e = omega (arith, sound-length (ends-sound g), sound-cells (ends-sound g) .0)
       go (ended {e = d} g fits) e = omega (arith, ending-at-most d)
 
@@ -72,18 +56,11 @@ module _ {text : List ℕ} {quota : ℕ} {memory out : List ℕ} {r : Answer} {m
     short : length (saved r out′) ≤ textLimit
     short = omega (arith, saved-at-most .1)
 
-    pub check-of-saved-never-too-long : {s : Answer} → Checks (saved r out′) s → numbers s .number ≢ TOOLONG
-    check-of-saved-never-too-long again = go (check-case again)
+    pub read-of-saved-never-too-long : {s : Answer} {out₂ out₂′ : List ℕ} → ReadsOut (saved r out′) out₂ s out₂′ → numbers s .number ≢ TOOLONG
+    read-of-saved-never-too-long {out₂ = out₂} again = go (read-case again)
       where
-        go : {s : Answer} → CheckCase (saved r out′) s → numbers s .number ≢ TOOLONG
-        go (bad-text {x} g) e = row-number (refuses-iff standard cellLimit (saved r out′) x .0 g) .1 short e
-        go (is-read g) e = omega arith
-
-    pub tidy-of-saved-never-too-long : {s : Answer} {out₂ out₂′ : List ℕ} → Tidies (saved r out′) out₂ s out₂′ → numbers s .number ≢ TOOLONG
-    tidy-of-saved-never-too-long {out₂ = out₂} again = go (tidy-case again)
-      where
-        go : {s : Answer} {out₂′ : List ℕ} → TidyCase (saved r out′) out₂ s out₂′ → numbers s .number ≢ TOOLONG
-        go (bad-text {x} g) e = row-number (refuses-iff standard cellLimit (saved r out′) x .0 g) .1 short e
+        go : {s : Answer} {out₂′ : List ℕ} → ReadCase (saved r out′) out₂ s out₂′ → numbers s .number ≢ TOOLONG
+        go (bad-text {x} g) e = row-number short (refuses-iff standard cellLimit (saved r out′) x .0 g) e
         go (out-short g h) e = omega arith
         go (is-read g h) e = omega arith
 
@@ -93,7 +70,7 @@ module _ {text : List ℕ} {quota : ℕ} {memory out : List ℕ} {r : Answer} {m
       run-of-saved-never-too-long = go (run-case again)
         where
           go : {s : Answer} {out₂′ : List ℕ} → RunCase (lent memory₂) quota₂ (saved r out′) out₂ s out₂′ → numbers s .number ≢ TOOLONG
-          go (bad-text {x} g) e = row-number (refuses-iff standard (lent memory₂) (saved r out′) x .0 g) .1 short e
+          go (bad-text {x} g) e = row-number short (refuses-iff standard (lent memory₂) (saved r out′) x .0 g) e
           go (out-short g h) e = omega arith
           go (ended {e = d} g h) e = omega (arith, ending-at-most d)
 

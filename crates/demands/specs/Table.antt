@@ -1,5 +1,5 @@
--- When TIDY and RUN refuse and with which place: rows 11 to 17 of document 01's table, 21 to 25 for 14, which `Refuses` has for every call, and
--- row 18, the printed text longer than the output. CHECK has no output, so `Refuses` is its whole table.
+-- When READ and RUN refuse and with which place: rows 11 to 17 of document 01's table, 21 to 25 for 14, which `Refuses` has for every call, and
+-- row 18, the printed text longer than the output.
 use Prim.Native.Nat.{ℕ, _<_}
 use mathlib.Core.List.{List}
 use lib.ListN.{length}
@@ -12,9 +12,9 @@ use Rattle.plan.specs.Refusals.{Refuses}
 use Rattle.plan.specs.Services.{standard}
 use Rattle.demands.specs.Words.{Bare, Ends, Reads}
 
-pub data TidyRefuses (text out : List ℕ) : Refusal → Type 0 where
-  rows-11-to-17 : {x : Refusal} → Refuses standard cellLimit text x → TidyRefuses text out x
-  row-18 : {p : Bare} → Reads cellLimit text p → length out < length (print p) → TidyRefuses text out (OutShort (length (print p)))
+pub data ReadRefuses (text out : List ℕ) : Refusal → Type 0 where
+  rows-11-to-17 : {x : Refusal} → Refuses standard cellLimit text x → ReadRefuses text out x
+  row-18 : {p : Bare} → Reads cellLimit text p → length out < length (print p) → ReadRefuses text out (OutShort (length (print p)))
 
 pub data RunRefuses (n quota : ℕ) (text out : List ℕ) : Refusal → Type 0 where
   rows-11-to-17 : {x : Refusal} → Refuses standard n text x → RunRefuses n quota text out x

@@ -6,3 +6,4 @@ pub mod Readback
 pub mod Reading
 pub mod Rules
 pub mod Sound
+pub mod Texts

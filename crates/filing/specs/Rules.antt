@@ -7,9 +7,9 @@ use mathlib.Core.List.{List, [], _∷_}
 use lib.Dec.{leb, ltb}
 use lib.ListN.{length}
 use Rattle.plan.specs.Plan.{print}
-use Rattle.plan.specs.Reading.{Reading, REFUSED, PLAN}
+use Rattle.plan.specs.Reading.{plan-of}
 use Rattle.plan.specs.Rewriting.{finished}
-use Rattle.plan.specs.Services.{Limits, accept}
+use Rattle.plan.specs.Services.{Limits, acceptable}
 use Rattle.stored.specs.Same.{same}
 use Rattle.filing.specs.Format.{Entry}
 
@@ -33,20 +33,12 @@ digits (b ∷ bs) = (leb 48 b && leb b 57) && digits bs
 unfoldable pub is-job : List ℕ → Bool
 is-job job = (ltb 0 (length job) && leb (length job) 10) && digits job
 
--- the printed text of a plan that CHECK accepts, and one that has no ready operator
-unfoldable pub printed-as : List ℕ → Reading → Bool
-printed-as text (REFUSED r) = false
-printed-as text (PLAN p) = same text (print p)
-
+-- an acceptable text that is the printed text of its plan, and one whose plan has no ready operator
 unfoldable pub is-printed : Limits → List ℕ → Bool
-is-printed lim text = printed-as text (accept lim (lim .cells) text)
-
-unfoldable pub finished-as : Reading → Bool
-finished-as (REFUSED r) = false
-finished-as (PLAN p) = finished p
+is-printed lim text = acceptable lim text && same text (print (plan-of (lim .token) text))
 
 unfoldable pub is-finished : Limits → List ℕ → Bool
-is-finished lim text = finished-as (accept lim (lim .cells) text)
+is-finished lim text = acceptable lim text && finished (plan-of (lim .token) text)
 
 -- how a job stands: no FILED, or its last FILED's place and text, or its DONE's place
 pub data JobStanding : Type 0 where

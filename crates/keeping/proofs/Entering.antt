@@ -9,16 +9,15 @@ use native.Mathlib.Omega.{arith}
 use borrow.Author.Tests.{leb-true}
 use lib.Dec.{leb, ltb}
 use lib.ListN.{length, length-reverse}
-use Rattle.kinds.specs.Limits.{cellLimit, textLimit}
-use Rattle.plan.specs.Reading.{Reading, PLAN, REFUSED}
-use Rattle.plan.specs.Services.{accept, standard}
-use Rattle.plan.proofs.Slots.{accepted-text}
+use Rattle.kinds.specs.Limits.{textLimit}
+use Rattle.plan.specs.Services.{standard}
 use Rattle.pieces.specs.Written.{put-at}
 use Rattle.filing.specs.Answers.{Added, Judged, add-to, closing-fault, edition-1, filing-fault, longest, new-bytes, not-added}
 use Rattle.filing.proofs.Rules.{closing-exactly, filing-exactly, obeys-done, obeys-filed}
+use Rattle.filing.proofs.Texts.{printed-text}
 use Rattle.filing.proofs.Adding.{entry-made, fault-first, room-last, roll-first}
 use Rattle.filing.specs.Format.{Entry}
-use Rattle.filing.specs.Rules.{counts-done, counts-filed, done, filed, is-job, is-new, is-printed, digits, printed-as, says, standing}
+use Rattle.filing.specs.Rules.{counts-done, counts-filed, done, filed, is-job, is-new, digits, says, standing}
 use Rattle.filing.specs.declared.RollAnswer.the-variants.{Listed}
 use Rattle.filing.specs.declared.RollRefusal.{RollRefusal}
 use Rattle.filing.specs.declared.RollRefusal.the-variants.{NoRoom}
@@ -84,17 +83,9 @@ job-few job e = go (ltb 0 (length job)) (leb (length job) 10) refl e
     go true false h g = absurd (false≢true g)
     go false t h g = absurd (false≢true g)
 
-text-few : (text : List ℕ) → is-printed standard text ≡ true → length text ≤ textLimit
-unfolding is-printed printed-as
-text-few text e = go (accept standard cellLimit text) refl e
-  where
-    go : (x : Reading) → accept standard cellLimit text ≡ x → printed-as text x ≡ true → length text ≤ textLimit
-    go (REFUSED q) a h = absurd (false≢true h)
-    go (PLAN p) a h = accepted-text standard cellLimit text a .short
-
 pub filed-short : (past : List Entry) (job text : List ℕ) → filing-fault standard past job text ≡ none → (length job ≤ 10) × (length text ≤ textLimit)
 filed-short past job text e =
-    let (j, t, may) = obeys-filed standard past job text (filing-exactly standard past job text .0 e) in (job-few job j, text-few text t)
+    let (j, t, may) = obeys-filed standard past job text (filing-exactly standard past job text .0 e) in (job-few job j, printed-text standard text t .0 .short)
 
 pub done-short : (past : List Entry) (job : List ℕ) → closing-fault standard past job ≡ none → length job ≤ 10
 done-short past job e = job-few job (obeys-done standard past job (closing-exactly standard past job .0 e) .0)

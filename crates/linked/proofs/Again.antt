@@ -1,4 +1,4 @@
--- Linking by the empty list gives what TIDY gives, but for OVERFULL's place; and linking what was linked changes nothing.
+-- Linking by the empty list gives what READ gives, but for OVERFULL's place; and linking what was linked changes nothing.
 use Prim.Native.Nat.{ℕ, _≤_, _<_}
 use mathlib.Core.Path.{_≡_, refl, ap, ap₂, sym, subst, _∙_}
 use mathlib.Core.List.{List}
@@ -14,10 +14,10 @@ use Rattle.plan.specs.declared.TextFault.{TextFault}
 use Rattle.plan.specs.Pieces.{placed}
 use Rattle.plan.specs.Plan.{Plan, bare, cells, print}
 use Rattle.plan.specs.Reading.{REFUSED}
-use Rattle.plan.specs.Services.{accept, as-read, fault-number, numbers, reads, standard, tidy, write}
+use Rattle.plan.specs.Services.{accept, as-read, fault-number, numbers, read-out, reads, standard, write}
 use Rattle.plan.proofs.Answers.{refuses-iff}
 use Rattle.plan.proofs.ReadBack.{bare-placed}
-use Rattle.services.specs.Calls.{Tidies}
+use Rattle.services.specs.Calls.{ReadsOut}
 use Rattle.words.specs.Answers.{link-numbers}
 use Rattle.words.specs.Linking.{Word}
 use Rattle.words.specs.declared.LinkAnswer.{LinkAnswer}
@@ -45,7 +45,7 @@ use Rattle.linked.proofs.Lists.{no-words-has, not-both, one-stock, word
 use Rattle.linked.proofs.Meanings.{accepted-reads, bare-cells, bare-print, linked-back, linked-by-none, linked-same, reads-accepted, reads-over}
 use Rattle.linked.proofs.PassedOn.{faulty-refuses}
 
--- TIDY refuses a text with a fault for that fault
+-- READ refuses a text with a fault for that fault
 fault-refused : {text : List ℕ} {f : TextFault} → Faulty text f → accept standard cellLimit text ≡ REFUSED (BadText f)
 fault-refused {text} {f} bad = refuses-iff standard cellLimit text (BadText f) .1 (faulty-refuses bad)
 
@@ -53,17 +53,17 @@ fault-refused {text} {f} bad = refuses-iff standard cellLimit text (BadText f) .
 fault-told : (f : TextFault) → refusal (Text f) ≡ placeless (numbers (Refused (BadText f)))
 fault-told f = rw (ne-eqb (fault-number f) OVERFULL (fault-number-is f .no-overfull))
 
--- "Linking by the empty list gives what TIDY gives, but for OVERFULL's place, which is 0": the same five numbers and the same bytes
-pub no-words-is-tidy : {text out : List ℕ} {r : LinkAnswer} {s : Answer} {a b : List ℕ}
-    → Links no-words text out r a → Tidies text out s b → (link-numbers r ≡ placeless (numbers s)) × (a ≡ b)
-unfolding tidy reads as-read write
-no-words-is-tidy {text} {out} {r} {s} {a} {b} call tidied = rw (tidied .answer, tidied .output) (go (link-case call))
+-- Linking by the empty list gives what READ gives, but for OVERFULL's place, which is 0: the same five numbers and the same bytes
+pub no-words-is-read : {text out : List ℕ} {r : LinkAnswer} {s : Answer} {a b : List ℕ}
+    → Links no-words text out r a → ReadsOut text out s b → (link-numbers r ≡ placeless (numbers s)) × (a ≡ b)
+unfolding read-out reads as-read write
+no-words-is-read {text} {out} {r} {s} {a} {b} call read = rw (read .answer, read .output) (go (link-case call))
   where
     none-left : {ws : List Word} (p : Plan ℕ) → HasWords no-words ws → linked-by ws p ≡ p
     none-left p has = ap (λ ws. linked-by ws p) (one-stock has no-words-has) ∙ linked-by-none p
 
     go : {r : LinkAnswer} {a : List ℕ} → LinkCase no-words text out r a
-        → (link-numbers r ≡ placeless (numbers (tidy standard text out .answer))) × (a ≡ tidy standard text out .output)
+        → (link-numbers r ≡ placeless (numbers (read-out standard text out .answer))) × (a ≡ read-out standard text out .output)
     go (bad-list bad) = not-both bad no-words-has
     go (bad-text {f = f} has bad) = rw (fault-refused bad) (fault-told f, refl)
     go (over-full {p = p} has x over) = rw (reads-over x (subst (λ q. cellLimit < cells q) (none-left p has) over)) (refl, refl)

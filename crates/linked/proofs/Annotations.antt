@@ -9,8 +9,9 @@ use Rattle.kinds.specs.Limits.{cellLimit, tokenLimit}
 use Rattle.plan.specs.Options.{under}
 use Rattle.plan.specs.Pieces.{placed}
 use Rattle.plan.specs.Plan.{Plan, end, operator, token, block, bare, cells}
-use Rattle.plan.specs.Reading.{HoldsAnnotation, OUTSIDE, read, without-marks}
-use Rattle.plan.specs.Services.{standard}
+use Rattle.plan.specs.Reading.{HoldsAnnotation, OUTSIDE, read, without-marks, plan-in, plan-of}
+use Rattle.plan.specs.Services.{acceptable, standard}
+use Rattle.plan.proofs.Acceptable.{AcceptableText, acceptable-plan, accepted-acceptable}
 use Rattle.plan.proofs.Annotations.{accept-without-marks, print-no-annotation}
 use Rattle.plan.proofs.Faultless.{without-marks-length}
 use Rattle.plan.proofs.ReadBack.{bare-placed, read-print}
@@ -18,10 +19,10 @@ use Rattle.plan.proofs.Refusals.{read-faultless}
 use Rattle.plan.proofs.Slots.{standard-roomy}
 use Rattle.stored.specs.Same.{same}
 use Rattle.words.specs.Answers.{LinkWritten, link-text}
-use Rattle.words.specs.Linking.{Word, holds, in-place, link, listed, plan-in, plan-of, stands-for, stock-token, used}
-use Rattle.words.specs.Stock.{acceptable, fits, is-read, right}
+use Rattle.words.specs.Linking.{Word, holds, in-place, link, listed, stands-for, stock-token, used}
+use Rattle.words.specs.Stock.{fits, right}
 use Rattle.words.specs.declared.LinkAnswer.{LinkAnswer}
-use Rattle.words.proofs.Listing.{AcceptableText, Right, acceptable-plan, right-word}
+use Rattle.words.proofs.Listing.{Right, right-word}
 use Rattle.linking.specs.Calls.{Links}
 use Rattle.linked.specs.Lists.{HasWords}
 use Rattle.linked.specs.Words.{IsLinked, HasPlan, linked-by, saved, without-its-marks}
@@ -102,8 +103,8 @@ module _ (w : Word) (text : AcceptableText standard (w .text)) where
       ∙ holds-relabel (λ l. tt {0}) t (plan-of tokenLimit (w .text))
 
   still-acceptable : acceptable standard (without-marks OUTSIDE (w .text)) ≡ true
-  unfolding acceptable is-read
-  still-acceptable = rw (accept-without-marks standard standard-roomy cellLimit (w .text) (text .accepted))
+  still-acceptable =
+      accepted-acceptable standard (without-marks OUTSIDE (w .text)) (accept-without-marks standard standard-roomy cellLimit (w .text) (text .accepted))
 
 its-text : (older : List Word) (w : Word) → right standard older w ≡ true → AcceptableText standard (w .text)
 its-text older w one = acceptable-plan standard (w .text) (right-word standard older w one .reads)

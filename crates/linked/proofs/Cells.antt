@@ -7,7 +7,8 @@ use Rattle.kinds.specs.Limits.{tokenLimit}
 use Rattle.plan.specs.declared.Numbers.{Numbers}
 use Rattle.plan.specs.Plan.{Plan, cells}
 use Rattle.words.specs.Answers.{link-numbers}
-use Rattle.words.specs.Linking.{Word, listed, plan-of, stands-for, stock-token}
+use Rattle.plan.specs.Reading.{plan-of}
+use Rattle.words.specs.Linking.{Word, listed, stands-for, stock-token}
 use Rattle.words.specs.Places.{cells-put, weighed, weight-by}
 use Rattle.words.specs.declared.LinkAnswer.{LinkAnswer}
 use Rattle.words.proofs.Cells.{cells-link}

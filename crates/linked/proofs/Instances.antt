@@ -5,22 +5,20 @@ use mathlib.Core.Path.{refl}
 use mathlib.Core.List.{List, [], _∷_, _++_, map}
 use native.Mathlib.Omega.{arith}
 use lib.ListN.{length, replicate, length-replicate}
-use Rattle.kinds.specs.Limits.{cellLimit, textLimit}
+use Rattle.kinds.specs.Limits.{textLimit}
 use Rattle.plan.specs.declared.Operator.the-variants.{A}
-use Rattle.plan.specs.declared.Refusal.the-variants.{Text as BadText}
 use Rattle.plan.specs.declared.TextFault.the-variants.{TooLong, Unmatched}
 use Rattle.plan.specs.Options.{under}
 use Rattle.plan.specs.Plan.{Plan, _then_, cells, labels, letter, print}
-use Rattle.plan.specs.Reading.{class, enter, fit, go-on, leave, mark, move, past-token, place, read, read-from, without-marks}
-use Rattle.plan.specs.Services.{accept, standard}
+use Rattle.plan.specs.Reading.{class, enter, fit, go-on, leave, mark, move, past-token, place, read, read-from, without-marks, plan-in, plan-of}
+use Rattle.plan.specs.Services.{accept, acceptable, as-read, is-given, reads}
 use Rattle.plan.specs.Token.{annotation, follows, scalar, value, well-formed, all-permitted, allowed, before-brace, character, if-allowed, may-hold, permits, token-text}
 use Rattle.plan.specs.Worked.{bytes}
-use Rattle.plan.proofs.Answers.{refuses-iff}
 use Rattle.stored.specs.Counted.{counted, number, so-many, then-read}
 use Rattle.stored.specs.Same.{same}
 use Rattle.words.specs.Answers.{link-by, link-numbers, link-read, link-text, links, read-text, within, write-linked}
-use Rattle.words.specs.Linking.{Word, holds, in-place, link, listed, plan-in, plan-of, stands-for, used}
-use Rattle.words.specs.Stock.{acceptable, as-counted, fits, is-read, is-name, next-word, right, stock, stocked, word}
+use Rattle.words.specs.Linking.{Word, holds, in-place, link, listed, stands-for, used}
+use Rattle.words.specs.Stock.{as-counted, fits, is-name, next-word, right, stock, stocked, word}
 use Rattle.words.specs.declared.LinkAnswer.the-variants.{Linked, Refused}
 use Rattle.words.specs.declared.LinkRefusal.the-variants.{BadWords, Text, Overfull, OutShort}
 use Rattle.linking.specs.Calls.{Links}
@@ -78,7 +76,7 @@ pub calls : Links list text out (Linked 9 22) (bytes "[{y}][{y}][[{y}]]{%q}a" ++
     × Links (2 ∷ 0 ∷ 0 ∷ 0 ∷ in-list (bytes "x") (bytes "[{%z}]") ++ in-list (bytes "z") []) text out (Refused (BadWords 1)) out
     × Links too-big (bytes "{%w}") out (Linked 1 1) (97 ∷ replicate 23 7)
     × Links (annotated (bytes "{&}{y}")) (bytes "{&a}{%x}") out (Linked 1 3) (bytes "{y}" ++ replicate 21 7)
-unfolding uses link-text links link-by link-read within write-linked read-text stock as-counted stocked next-word right fits is-name acceptable is-read word listed used holds plan-of plan-in link in-place stands-for number so-many counted then-read same accept read read-from go-on move past-token mark annotation fit class token-text if-allowed before-brace allowed all-permitted permits may-hold character value follows scalar well-formed cells labels print letter _then_ under bytes
+unfolding uses link-text links link-by link-read within write-linked read-text stock as-counted stocked next-word right fits is-name acceptable is-given reads as-read word listed used holds plan-of plan-in link in-place stands-for number so-many counted then-read same accept read read-from go-on move past-token mark annotation fit class token-text if-allowed before-brace allowed all-permitted permits may-hold character value follows scalar well-formed cells labels print letter _then_ under bytes
 calls = (
   record { answer = refl; output = refl },
   record { answer = refl; output = refl },
@@ -114,12 +112,12 @@ bad-lists = (
 -- a word at fault, in each of the ways: `OneOf` in both of its own, and `Uses` in a block
 pub faulty-words : FaultyWord [] (of [] []) × FaultyWord [] (of (bytes "{") []) × FaultyWord (of (bytes "z") [] ∷ of (bytes "x") [] ∷ []) (of (bytes "x") [])
     × FaultyWord [] (of (bytes "x") (bytes "{y}]")) × FaultyWord [] (of (bytes "x") (bytes "[{%x}]"))
-unfolding holds plan-of plan-in same accept read read-from go-on move past-token mark annotation fit class token-text if-allowed before-brace allowed all-permitted permits may-hold character value follows scalar well-formed cells labels _then_ under bytes
+unfolding holds plan-of plan-in same acceptable is-given reads as-read accept read read-from go-on move past-token mark annotation fit class token-text if-allowed before-brace allowed all-permitted permits may-hold character value follows scalar well-formed cells labels _then_ under bytes
 faulty-words = (
   no-name refl,
   bad-name refl,
   named-already (earlier (newest refl)),
-  bad-text (refuses-iff standard cellLimit (bytes "{y}]") (BadText (Unmatched (place 3))) .0 refl),
+  bad-text refl,
   used-already (newest refl),
 )
 

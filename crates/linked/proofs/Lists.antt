@@ -10,26 +10,21 @@ use native.Mathlib.Nat.{add-zero, zero-add}
 use borrow.Author.Tests.{leb-true, leb-false, le-leb, lt-leb, not-false}
 use lib.Dec.{leb}
 use lib.ListN.{length}
-use Rattle.kinds.specs.Limits.{cellLimit, tokenLimit}
-use Rattle.plan.specs.declared.Refusal.{Refusal}
-use Rattle.plan.specs.Reading.{Reading, PLAN, REFUSED}
-use Rattle.plan.specs.Refusals.{Refuses}
-use Rattle.plan.specs.Services.{accept, standard}
+use Rattle.kinds.specs.Limits.{tokenLimit}
+use Rattle.plan.specs.Reading.{plan-of}
+use Rattle.plan.specs.Services.{acceptable, standard}
 use Rattle.plan.specs.Token.{allowed}
-use Rattle.plan.proofs.Answers.{refuses-iff}
 use Rattle.plan.proofs.Tests.{and-true, false-is-not-true, never}
 use Rattle.stored.specs.Counted.{AtFront, CUT, FRONT, number}
 use Rattle.stored.specs.Same.{same}
 use Rattle.stored.proofs.Same.{same-equal, same-true}
-use Rattle.words.specs.Linking.{Word, holds, listed, plan-of, stock-token, used}
+use Rattle.words.specs.Linking.{Word, holds, listed, stock-token, used}
 use Rattle.words.specs.Stock.{
   FAULT,
   Stock,
   WORDS,
-  acceptable,
   as-counted,
   fits,
-  is-read,
   is-name,
   next-word,
   right,
@@ -98,21 +93,6 @@ one-used w (newest {w = v} h) = rw h
 one-used w (earlier {w = v} h) =
     let uses = holds (stock-token w) (plan-of tokenLimit (v .text)) in ap (uses ||_) (one-used w h) ∙ or-true uses
 
--- a text is acceptable exactly when CHECK does not refuse it
-acceptable-not-refused : (text : List ℕ) {x : Refusal} → acceptable standard text ≡ true → Refuses standard cellLimit text x → ⊥
-unfolding acceptable is-read
-acceptable-not-refused text {x} e h =
-    let refused : accept standard cellLimit text ≡ REFUSED x = refuses-iff standard cellLimit text x .1 h in
-    false-is-not-true (sym (ap is-read refused) ∙ e)
-
-unacceptable-refused : (text : List ℕ) → acceptable standard text ≡ false → (x : Refusal) × Refuses standard cellLimit text x
-unfolding acceptable is-read
-unacceptable-refused text e = go (accept standard cellLimit text) refl e
-  where
-    go : (y : Reading) → accept standard cellLimit text ≡ y → is-read y ≡ false → (x : Refusal) × Refuses standard cellLimit text x
-    go (PLAN p) h e = false-is-not-true (sym e)
-    go (REFUSED x) h e = (x, refuses-iff standard cellLimit text x .0 h)
-
 -- a right word has none of the faults
 right-faultless : (older : List Word) (w : Word) → right standard older w ≡ true → FaultyWord older w → ⊥
 unfolding is-name
@@ -123,7 +103,7 @@ right-faultless older w e (bad-name h) =
     let named = and-true (leb 1 (length (w .name))) (allowed tokenLimit (stock-token w)) (right-word standard older w e .named) in
     false-is-not-true (sym h ∙ named .1)
 right-faultless older w e (named-already h) = false-is-not-true (sym (right-word standard older w e .new) ∙ one-listed w h)
-right-faultless older w e (bad-text h) = acceptable-not-refused (w .text) (right-word standard older w e .reads) h
+right-faultless older w e (bad-text h) = false-is-not-true (sym h ∙ right-word standard older w e .reads)
 right-faultless older w e (used-already h) = false-is-not-true (sym (right-word standard older w e .unused) ∙ one-used w h)
 
 -- one of two tests fails
@@ -140,7 +120,7 @@ wrong-faulty older w e =
     (λ h. and-cases (leb 1 (length (w .name))) (allowed tokenLimit (stock-token w)) h
     (λ h. no-name (omega (arith, leb-false 1 (length (w .name)) h))) bad-name)
     (λ h. and-cases (not (listed (stock-token w) older)) (acceptable standard (w .text)) h
-    (λ h. named-already (listed-one w older (not-false _ h))) (λ h. bad-text (unacceptable-refused (w .text) h .1))))
+    (λ h. named-already (listed-one w older (not-false _ h))) bad-text))
     (λ h. used-already (used-one w (w ∷ older) (not-false _ h)))
 
 faultless-right : (older : List Word) (w : Word) → (FaultyWord older w → ⊥) → right standard older w ≡ true

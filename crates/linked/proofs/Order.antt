@@ -14,15 +14,17 @@ use Rattle.plan.specs.Pieces.{placed}
 use Rattle.plan.specs.Plan.{cells, close-brace, end, open-brace, print, token}
 use Rattle.plan.specs.Services.{standard}
 use Rattle.plan.specs.Token.{allowed, annotation}
+use Rattle.plan.proofs.Acceptable.{acceptable-plan}
 use Rattle.plan.proofs.Plans.{then-end}
 use Rattle.plan.proofs.Slots.{print-accepted, standard-roomy}
 use Rattle.plan.proofs.Tests.{and-true}
 use Rattle.plan.proofs.Tokens.{allowed-parts}
 use Rattle.words.specs.Answers.{LinkWritten, link-text, within, write-linked}
-use Rattle.words.specs.Linking.{Word, in-place, link, plan-of, stands-for, stock-token}
+use Rattle.plan.specs.Reading.{plan-of}
+use Rattle.words.specs.Linking.{Word, in-place, link, stands-for, stock-token}
 use Rattle.words.specs.Stock.{is-name}
 use Rattle.words.specs.declared.LinkAnswer.{LinkAnswer}
-use Rattle.words.proofs.Listing.{Right, RightWord, acceptable-plan, right-word, stands-word}
+use Rattle.words.proofs.Listing.{Right, RightWord, right-word, stands-word}
 use Rattle.linking.specs.Calls.{Links}
 use Rattle.linked.specs.Lists.{HasWords}
 use Rattle.linked.specs.Words.{HasPlan, linked-by}

@@ -3,7 +3,7 @@
 use Prim.Native.Nat.{ℕ, _≤_}
 use mathlib.Core.Path.{_≡_, ap, ap₂, sym, _∙_}
 use mathlib.Core.Logic.{_≢_}
-use mathlib.Core.Bool.{false}
+use mathlib.Core.Bool.{true, false}
 use mathlib.Core.List.{List, _∷_, _++_}
 use native.Mathlib.Omega.{arith}
 use lib.ListN.{length}
@@ -14,19 +14,22 @@ use Rattle.plan.specs.declared.Numbers.{Numbers}
 use Rattle.plan.specs.Pieces.{bares, pieces, placed}
 use Rattle.plan.specs.Plan.{Plan, bare, cells, print}
 use Rattle.plan.specs.Reading.{PLAN}
-use Rattle.plan.specs.Services.{accept, answer-of, as-read, check, numbers, reads, standard}
+use Rattle.plan.specs.Services.{accept, acceptable, numbers, standard}
 use Rattle.plan.specs.Slots.{total}
+use Rattle.plan.proofs.Acceptable.{accepted-acceptable}
 use Rattle.plan.proofs.Pieces.{pieces-relabel}
-use Rattle.plan.proofs.ReadBack.{bare-placed, cells-placed, print-placed}
+use Rattle.plan.proofs.Plans.{cells-relabel, print-relabel}
+use Rattle.plan.proofs.ReadBack.{bare-placed}
 use Rattle.words.specs.Answers.{link-numbers}
 use Rattle.words.specs.Linking.{Word, holds, listed, stands-for, stock-token}
 use Rattle.words.specs.Places.{linked-pieces}
 use Rattle.words.specs.declared.LinkAnswer.{LinkAnswer}
 use Rattle.words.proofs.Flat.{pieces-link}
 use Rattle.words.proofs.Listing.{listed-there, no-listed-token}
-use Rattle.services.specs.Calls.{Checks, Runs}
+use Rattle.services.specs.Calls.{ReadsOut, Runs}
 use Rattle.demands.specs.Slots.{Slots}
 use Rattle.demands.specs.Words.{Bare, DONE, OUTSHORT, Reads, Unrefused, lent, saved as run-saved}
+use Rattle.demands.proofs.Acceptable.{room-lent}
 use Rattle.demands.proofs.Cases.{read-unrefused}
 use Rattle.demands.proofs.Meanings.{reads-one}
 use Rattle.demands.proofs.MoreNeverChanges.{more-gives-the-same, slots-end-as-the-run}
@@ -37,11 +40,6 @@ use Rattle.linked.specs.Words.{IsLinked, HasPlan, linked-by, saved}
 use Rattle.linked.proofs.Cases.{linked-as}
 use Rattle.linked.proofs.Lists.{words-right}
 use Rattle.linked.proofs.Meanings.{holds-relabel, linked-back}
-
--- what CHECK answers of an accepted text
-check-of : (text : List ℕ) {p : Plan ℕ} → accept standard cellLimit text ≡ PLAN p → check standard text ≡ Read (cells p) (length (print p))
-unfolding check reads as-read answer-of
-check-of text e = rw e
 
 module _ {list text out : List ℕ} {r : LinkAnswer} {out′ : List ℕ} (call : Links list text out r out′) (linked : IsLinked r)
     {ws : List Word} {p : Plan ℕ} (has : HasWords list ws) (text-reads : HasPlan text p) where
@@ -62,11 +60,16 @@ module _ {list text out : List ℕ} {r : LinkAnswer} {out′ : List ℕ} (call :
   saved-reads n room lent =
       record { placed = placed 0 (linked-by ws p); accepted = accepted-again n room lent; same = bare-placed 0 (linked-by ws p) }
 
-  -- CHECK answers READ for it, with the cells and the length that LINK told
-  pub saved-acceptable : {s : Answer} → Checks (saved r out′) s → s ≡ Read (link-numbers r .cells) (link-numbers r .length)
-  saved-acceptable again =
-      again .answer ∙ check-of (saved r out′) (accepted-again cellLimit (omega (arith, its-cells, its .few)) (omega arith))
-      ∙ ap₂ Read (cells-placed 0 (linked-by ws p) ∙ sym its-cells) (ap length (print-placed 0 (linked-by ws p)) ∙ sym its-length)
+  pub saved-acceptable : acceptable standard (saved r out′) ≡ true
+  saved-acceptable = accepted-acceptable standard (saved r out′) (accepted-again cellLimit (omega (arith, its-cells, its .few)) (omega arith))
+
+  -- and READ with an output that is long enough tells the cells and the length that LINK told
+  pub saved-read : {o : List ℕ} {s : Answer} {o′ : List ℕ} → ReadsOut (saved r out′) o s o′ → link-numbers r .length ≤ length o
+      → s ≡ Read (link-numbers r .cells) (link-numbers r .length)
+  saved-read again room =
+      let sized : length (print (bare (linked-by ws p))) ≡ link-numbers r .length = ap length (print-relabel (λ l. tt {0}) (linked-by ws p)) ∙ sym its-length in
+      room-lent (saved-reads cellLimit (omega (arith, its-cells, its .few)) (omega arith)) again (omega arith)
+      ∙ ap₂ Read (cells-relabel (λ l. tt {0}) (linked-by ws p) ∙ sym its-cells) sized
 
   reads-linked : {q : Bare} → Reads cellLimit (saved r out′) q → bare (linked-by ws p) ≡ q
   reads-linked again = reads-one (saved-reads cellLimit (omega (arith, its-cells, its .few)) (omega arith)) again

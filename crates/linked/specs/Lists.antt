@@ -5,13 +5,12 @@ use mathlib.Core.Path.{_≡_}
 use mathlib.Core.Bool.{true, false}
 use mathlib.Core.List.{List, [], _∷_}
 use lib.ListN.{length}
-use Rattle.kinds.specs.Limits.{cellLimit, tokenLimit}
-use Rattle.plan.specs.declared.Refusal.{Refusal}
-use Rattle.plan.specs.Refusals.{Refuses}
-use Rattle.plan.specs.Services.{standard}
+use Rattle.kinds.specs.Limits.{tokenLimit}
+use Rattle.plan.specs.Services.{acceptable, standard}
 use Rattle.plan.specs.Token.{allowed}
 use Rattle.stored.specs.Counted.{CUT, FRONT, number}
-use Rattle.words.specs.Linking.{Word, holds, plan-of, stock-token}
+use Rattle.plan.specs.Reading.{plan-of}
+use Rattle.words.specs.Linking.{Word, holds, stock-token}
 use Rattle.words.specs.Stock.{word, wordLimit}
 
 -- one of the words has the property
@@ -24,12 +23,12 @@ abbrev pub Uses : (v w : Word) → Type 0
 Uses v w = holds (stock-token w) (plan-of tokenLimit (v .text)) ≡ true
 
 -- what can be wrong with a word that is whole: its name is empty, makes no allowed token, or stands already at a smaller rank; its
--- text is not acceptable, which is to say CHECK refuses it; or a word of the same or a smaller rank uses it
+-- text is not acceptable; or a word of the same or a smaller rank uses it
 pub data FaultyWord (older : List Word) (w : Word) : Type 0 where
   no-name : length (w .name) ≡ 0 → FaultyWord older w
   bad-name : allowed tokenLimit (stock-token w) ≡ false → FaultyWord older w
   named-already : OneOf (λ v. v .name ≡ w .name) older → FaultyWord older w
-  bad-text : {x : Refusal} → Refuses standard cellLimit (w .text) x → FaultyWord older w
+  bad-text : acceptable standard (w .text) ≡ false → FaultyWord older w
   used-already : OneOf (λ v. Uses v w) (w ∷ older) → FaultyWord older w
 
 -- `WholeWords bytes ws rest`: the bytes begin with these words, each whole and without a fault, and the rest stands behind them

@@ -9,7 +9,7 @@ use borrow.Author.Tests.{le-leb, lt-leb}
 use lib.ListN.{length, length-replicate, replicate}
 use Rattle.kinds.specs.Limits.{cellLimit, tokenLimit}
 use Rattle.plan.specs.Plan.{Plan, cells, print}
-use Rattle.plan.specs.Reading.{PLAN, REFUSED}
+use Rattle.plan.specs.Reading.{PLAN, REFUSED, plan-of}
 use Rattle.plan.specs.Services.{standard}
 use Rattle.plan.specs.Token.{Allowed}
 use Rattle.plan.specs.declared.Refusal.the-variants.{Text as BadText}
@@ -20,7 +20,7 @@ use Rattle.pieces.specs.Written.{put-at}
 use Rattle.pieces.proofs.Putting.{put-front}
 use Rattle.stored.specs.Same.{same}
 use Rattle.words.specs.Answers.{GIVES, link-by, link-read, link-text, links, read-text, within, write-linked}
-use Rattle.words.specs.Linking.{link, plan-of, stands-for, stock-token}
+use Rattle.words.specs.Linking.{link, stands-for, stock-token}
 use Rattle.words.specs.Stock.{FAULT, WORDS, stock}
 use Rattle.words.specs.declared.LinkAnswer.{LinkAnswer}
 use Rattle.words.specs.declared.LinkAnswer.the-variants.{Linked, Refused}

@@ -8,7 +8,7 @@ use lib.ListN.{length}
 use Rattle.kinds.specs.Limits.{textLimit, tokenLimit}
 use Rattle.plan.specs.Plan.{Plan, cells, end, print}
 use Rattle.plan.specs.Pieces.{Shows, pieces}
-use Rattle.plan.specs.Reading.{Around, Move, ON, PLAN, REFUSED, Reading, STOP, class, fit, go-on, inside, move, outermost, place, read, read-from}
+use Rattle.plan.specs.Reading.{Around, Move, ON, PLAN, REFUSED, Reading, STOP, class, fit, go-on, inside, move, outermost, place, read, read-from, plan-in, plan-of}
 use Rattle.plan.specs.Services.{standard}
 use Rattle.plan.specs.declared.Refusal.{Refusal}
 use Rattle.plan.specs.declared.Refusal.the-variants.{Text}
@@ -22,7 +22,6 @@ use Rattle.reader.specs.Counting.{surveyed}
 use Rattle.reader.specs.declared.Surveyed.{Surveyed}
 use Rattle.reader.specs.declared.Surveyed.the-variants.{Accepted, Refused}
 use Rattle.words.specs.Answers.{read-text}
-use Rattle.words.specs.Linking.{plan-in, plan-of}
 use Rattle.shelf.specs.Shelf.{Readable}
 
 -- only a fault of the text refuses it

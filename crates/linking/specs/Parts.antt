@@ -3,11 +3,10 @@ use Prim.Native.Nat.{ℕ, _≤_}
 use mathlib.Core.Path.{_≡_}
 use mathlib.Core.List.{List}
 use Rattle.kinds.specs.Limits.{tokenLimit}
-use Rattle.plan.specs.Reading.{PLAN, REFUSED}
+use Rattle.plan.specs.Reading.{PLAN, REFUSED, plan-of}
 use Rattle.plan.specs.Services.{standard}
 use Rattle.plan.specs.declared.Refusal.the-variants.{Text}
 use Rattle.words.specs.Answers.{LinkOutcome, read-text, write-linked}
-use Rattle.words.specs.Linking.{plan-of}
 use Rattle.words.specs.Stock.{wordLimit}
 use Rattle.words.specs.declared.LinkAnswer.{LinkAnswer}
 use Rattle.shelf.specs.Shelf.{Readable, Shelved}

@@ -1,3 +1,4 @@
+pub mod Acceptable
 pub mod Annotations
 pub mod Answers
 pub mod Classes

@@ -163,3 +163,11 @@ without-marks IN-ANNOTATION (b ∷ bs) = without-marks (leave b IN-ANNOTATION) b
 -- an annotation stands somewhere in the bytes: a `&` comes right behind a `{`
 abbrev pub HoldsAnnotation : List ℕ → Type 0
 HoldsAnnotation bs = (before : List ℕ) × (rest : List ℕ) × (bs ≡ before ++ open-brace ∷ ampersand ∷ rest)
+
+-- the plan that a text reads as, however many cells it has; for a text with a fault, the empty plan
+unfoldable pub plan-in : Reading → Plan ℕ
+plan-in (PLAN p) = p
+plan-in (REFUSED r) = end
+
+unfoldable pub plan-of : (limit : ℕ) → List ℕ → Plan ℕ
+plan-of limit text = plan-in (read-from limit 0 0 outermost end text)

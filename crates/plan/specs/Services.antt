@@ -1,6 +1,7 @@
--- What CHECK, TIDY and RUN answer and what they leave, for every input: document 01, "The three services".
+-- What READ and RUN answer and what they leave, for every input: document 01, "The three services", of which request 4 of document 02
+-- makes the first two one; and which texts are acceptable.
 use Prim.Native.Nat.{ℕ, _/_}
-use mathlib.Core.Bool.{cond}
+use mathlib.Core.Bool.{Bool, true, false, cond}
 use mathlib.Core.List.{List, _++_}
 use lib.ListN.{length, drop, replicate}
 use lib.Dec.{leb, ltb}
@@ -88,9 +89,17 @@ unfoldable pub as-read : Reading → Outcome
 as-read (REFUSED r) = REFUSES r
 as-read (PLAN p) = GIVES (Read (cells p) (length (print p))) (print p)
 
--- CHECK and TIDY lend no memory: their plans may have as many cells as any
+-- READ but for OUTSHORT. It lends no memory: its plans may have as many cells as any
 unfoldable pub reads : Limits → List ℕ → Outcome
 reads lim text = as-read (accept lim (lim .cells) text)
+
+-- a text is acceptable when nothing but OUTSHORT could refuse it
+unfoldable pub is-given : Outcome → Bool
+is-given (REFUSES r) = false
+is-given (GIVES a t) = true
+
+unfoldable pub acceptable : Limits → List ℕ → Bool
+acceptable lim text = is-given (reads lim text)
 
 unfoldable pub as-run : {L : Type 0} → Run L → Outcome
 as-run (RAN e steps p) = GIVES (Ran e steps (cells p) (length (print p))) (print p)
@@ -101,10 +110,6 @@ run-read n quota (PLAN p) = as-run (run-plan n quota p)
 
 unfoldable pub runs : Limits → (n quota : ℕ) → List ℕ → Outcome
 runs lim n quota text = run-read n quota (accept lim n text)
-
-unfoldable pub answer-of : Outcome → Answer
-answer-of (REFUSES r) = Refused r
-answer-of (GIVES a t) = a
 
 -- what a call answers, and what the output lent to it then holds
 pub record Written : Type 0 where
@@ -118,11 +123,8 @@ write (GIVES a t) out =
     cond (leb (length t) (length out)) (record { answer = a; output = t ++ drop (length t) out })
     (record { answer = Refused (OutShort (length t)); output = out })
 
-unfoldable pub check : Limits → List ℕ → Answer
-check lim text = answer-of (reads lim text)
-
-unfoldable pub tidy : Limits → (text output : List ℕ) → Written
-tidy lim text output = write (reads lim text) output
+unfoldable pub read-out : Limits → (text output : List ℕ) → Written
+read-out lim text output = write (reads lim text) output
 
 -- of the work memory only its length counts: a quarter of it, rounded down, in cells
 unfoldable pub run : Limits → (text : List ℕ) → (quota memory-length : ℕ) → (output : List ℕ) → Written

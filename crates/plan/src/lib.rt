@@ -54,7 +54,7 @@ pub enum TextFault {
     Unclosed(Place),
 }
 
-// Why a call of CHECK, TIDY or RUN is refused, with the place that goes with it.
+// Why a call of READ or RUN is refused, with the place that goes with it.
 pub enum Refusal {
     Text(TextFault),
     BadArena,
@@ -63,7 +63,7 @@ pub enum Refusal {
     OutShort(u32),
 }
 
-// What CHECK, TIDY and RUN answer. A refusal carries no steps, no cells and no length: it has none.
+// What READ and RUN answer. A refusal carries no steps, no cells and no length: it has none.
 pub enum Answer {
     Ran {
         ending: Ending,

@@ -1,4 +1,4 @@
--- What a survey says of an acceptable text is what CHECK and TIDY answer.
+-- What a survey says of a text is what READ answers.
 use Prim.Native.Nat.{ℕ, _≤_, _<_}
 use mathlib.Core.Path.{_≡_, refl, ap, ap₂, sym, _∙_}
 use mathlib.Core.List.{List}
@@ -9,7 +9,7 @@ use Rattle.kinds.specs.Limits.{cellLimit, textLimit, tokenLimit}
 use Rattle.plan.specs.Plan.{Plan, cells, print}
 use Rattle.plan.specs.Pieces.{Shows, pieces}
 use Rattle.plan.specs.Reading.{Reading, PLAN, REFUSED, read}
-use Rattle.plan.specs.Services.{GIVES, REFUSES, accept, answer-of, as-read, check, reads, standard, tidy, write}
+use Rattle.plan.specs.Services.{GIVES, REFUSES, accept, as-read, read-out, reads, standard, write}
 use Rattle.plan.specs.declared.Answer.the-variants.{Read, Refused}
 use Rattle.plan.specs.declared.Refusal.{Refusal}
 use Rattle.plan.specs.declared.Refusal.the-variants.{Text, BadArena, OutShort}
@@ -21,7 +21,7 @@ use Rattle.reader.specs.Counting.{surveyed}
 use Rattle.pieces.specs.Written.{put-at}
 use Rattle.pieces.proofs.Putting.{put-front}
 use Rattle.items.specs.Walk.{Tidyable}
-use Rattle.services.specs.Calls.{Checks, Tidies}
+use Rattle.services.specs.Calls.{ReadsOut}
 use Rattle.reader.specs.declared.Surveyed.{Surveyed}
 use Rattle.reader.specs.declared.Surveyed.the-variants.{Accepted, Refused as RefusedText}
 
@@ -69,38 +69,28 @@ module _ (text : List ℕ) where
             let sized : length (print p) ≡ l = cc in
             record { plan = p; read-as = ok .reads; short = ok .short; gives = rw a (ap (λ r. GIVES r (print p)) (ap₂ Read counted sized)); long = sized }
 
-    pub check-refused : {r : Refusal} → s ≡ RefusedText r → Checks text (Refused r)
-    unfolding check answer-of
-    check-refused e = record { answer = rw (reads-refused e) }
-
-    pub check-accepted : {c l : ℕ} → s ≡ Accepted c l → Checks text (Read c l)
-    unfolding check answer-of
-    check-accepted e = record { answer = rw (reads-accepted e .gives) }
-
-    pub tidy-refused : {r : Refusal} (out : List ℕ) → s ≡ RefusedText r
-        → Tidies text out (Refused r) out
-    unfolding tidy write
-    tidy-refused out e = record { answer = rw (reads-refused e); output = rw (reads-refused e) }
+    pub read-refused : {r : Refusal} (out : List ℕ) → s ≡ RefusedText r → ReadsOut text out (Refused r) out
+    unfolding read-out write
+    read-refused out e = record { answer = rw (reads-refused e); output = rw (reads-refused e) }
 
     -- a text that is found acceptable, and an output
     module _ {c l : ℕ} (out : List ℕ) (e : s ≡ Accepted c l) where
-      pub tidy-fits : l ≤ length out → Tidyable text out 0
-      tidy-fits h =
+      pub read-fits : l ≤ length out → Tidyable text out 0
+      read-fits h =
           let r = reads-accepted e in
           record { short = r .short; plan = r .plan; shows = read-accepted tokenLimit cellLimit text (r .read-as) .shows; room = omega (arith, r .long) }
 
-      pub tidy-short : length out < l
-          → Tidies text out (Refused (OutShort l)) out
-      unfolding tidy
-      tidy-short h =
+      pub read-short : length out < l → ReadsOut text out (Refused (OutShort l)) out
+      unfolding read-out
+      read-short h =
           let r = reads-accepted e in
           let w = write-short (Read c l) (print (r .plan)) out (omega (arith, r .long)) in
           record { answer = rw (r .gives, w) (ap (λ k. Refused (OutShort k)) (sym (r .long))); output = rw (r .gives, w) }
 
-      pub tidy-written : {out′ : List ℕ} → l ≤ length out → ((p : Plan ℕ) → Shows tokenLimit 0 text (pieces p) → out′ ≡ put-at out 0 (print p))
-          → Tidies text out (Read c l) out′
-      unfolding tidy
-      tidy-written h is =
+      pub read-written : {out′ : List ℕ} → l ≤ length out → ((p : Plan ℕ) → Shows tokenLimit 0 text (pieces p) → out′ ≡ put-at out 0 (print p))
+          → ReadsOut text out (Read c l) out′
+      unfolding read-out
+      read-written h is =
           let r = reads-accepted e in
           let w = write-fits (Read c l) (print (r .plan)) out (omega (arith, r .long)) in
           let there = is (r .plan) (read-accepted tokenLimit cellLimit text (r .read-as) .shows) in

@@ -5,14 +5,11 @@ use mathlib.Core.Path.{_≡_}
 use mathlib.Core.List.{List}
 use lib.ListN.{length}
 use Rattle.plan.specs.declared.Answer.{Answer}
-use Rattle.plan.specs.Services.{check, cleared, run, standard, tidy}
+use Rattle.plan.specs.Services.{cleared, read-out, run, standard}
 
-pub record Checks (text : List ℕ) (r : Answer) : Type 0 where
-  pub answer : r ≡ check standard text
-
-pub record Tidies (text out : List ℕ) (r : Answer) (out′ : List ℕ) : Type 0 where
-  pub answer : r ≡ tidy standard text out .answer
-  pub output : out′ ≡ tidy standard text out .output
+pub record ReadsOut (text out : List ℕ) (r : Answer) (out′ : List ℕ) : Type 0 where
+  pub answer : r ≡ read-out standard text out .answer
+  pub output : out′ ≡ read-out standard text out .output
 
 pub record Runs (text : List ℕ) (quota : ℕ) (memory out : List ℕ) (r : Answer) (memory′ out′ : List ℕ) : Type 0 where
   pub answer : r ≡ run standard text quota (length memory) out .answer

@@ -1,9 +1,9 @@
-// The services of document 01. Each is public, asks nothing of its caller, and its contract says for every input what the call
-// answers and leaves (specs/Calls.antt).
+// The services of document 01, the first two made one by request 4. Each is public, asks nothing of its caller, and its contract
+// says for every input what the call answers and leaves (specs/Calls.antt).
 ghost use mathlib.Core.Path.{_≡_};
 ghost use Rattle.plan.specs.Services.{accept, standard};
 ghost use Rattle.reader.specs.Counting.{surveyed};
-ghost use Rattle.services.specs.Calls.{Checks, Tidies};
+ghost use Rattle.services.specs.Calls.{ReadsOut};
 use items::put_tidied;
 use kinds::Cell;
 use kinds::Place;
@@ -17,7 +17,7 @@ mod running;
 
 pub use running::run;
 
-// Whether a text is acceptable with so many cells lent.
+// Whether a text is accepted with so many cells lent.
 fn look_over(text: &[u8], lent: usize) -> Surveyed
     ensures { λ r. ⌜ r ≡ surveyed (accept standard lent (now (text .entry))) ⌝ }
 {
@@ -30,19 +30,9 @@ fn look_over(text: &[u8], lent: usize) -> Surveyed
     survey(text, lent as u32)
 }
 
-// CHECK lends no memory: its plans may have as many cells as any.
-pub fn check(text: &[u8]) -> Answer
-    ensures { λ r. ⌜ Checks (now (text .entry)) r ⌝ }
-{
-    match look_over(text, Cell::LIMIT) {
-        Surveyed::Accepted { cells, length } => Answer::Read { cells, length },
-        Surveyed::Refused(refusal) => Answer::Refused(refusal),
-    }
-}
-
-// TIDY lends no memory either.
-pub fn tidy(text: &[u8], output: &mut [u8]) -> Answer
-    ensures { λ r. ⌜ Tidies (now (text .entry)) (now (output .entry)) r (now (output .exit)) ⌝ }
+// READ lends no memory: its plans may have as many cells as any.
+pub fn read(text: &[u8], output: &mut [u8]) -> Answer
+    ensures { λ r. ⌜ ReadsOut (now (text .entry)) (now (output .entry)) r (now (output .exit)) ⌝ }
 {
     match look_over(text, Cell::LIMIT) {
         Surveyed::Refused(refusal) => Answer::Refused(refusal),

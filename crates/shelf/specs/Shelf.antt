@@ -14,7 +14,8 @@ use Rattle.pieces.specs.Written.{Is, TokenAt}
 use Rattle.pieces.specs.declared.Piece.{Piece as CodePiece}
 use Rattle.stored.specs.Counted.{AtFront, CUT, FRONT}
 use Rattle.stored.specs.Same.{same}
-use Rattle.words.specs.Linking.{Word, link, plan-of, stands-for, stock-token}
+use Rattle.plan.specs.Reading.{plan-of}
+use Rattle.words.specs.Linking.{Word, link, stands-for, stock-token}
 use Rattle.words.specs.Stock.{word}
 use Rattle.shelf.specs.declared.Named.{Named}
 use Rattle.shelf.specs.declared.Named.the-variants.{Unlisted, Listed}

@@ -10,11 +10,13 @@ ghost use Rattle.filing.specs.Rules.{digits, is-finished, is-job, is-printed, n
 ghost use Rattle.filing.specs.EntriesStand.{EntriesStand};
 ghost use Rattle.entries.specs.Entries.{EntryWithin, SpanWithin, part, says-told};
 ghost use Rattle.standing.specs.Looking.{StandingWithin, standing-told};
+use asking::Asked;
+use asking::ask;
+use asking::is_acceptable;
 use entries::EntryAt;
 use entries::Span;
 use entries::entry_at;
 use entries::next_of;
-use plan::Answer;
 
 // The bytes `0` to `9`, and nothing else.
 fn are_digits(job: &[u8]) -> bool
@@ -46,36 +48,24 @@ pub fn is_job(job: &[u8]) -> bool
     are_digits(job)
 }
 
-// The printed text of a plan that CHECK accepts: then nothing is left out where it is printed.
+// An acceptable text of which nothing is left out where it is printed.
 pub fn is_printed(text: &[u8]) -> bool
     ensures { λ r. ⌜ r ≡ is-printed standard (now (text .entry)) ⌝ }
 {
-    match services::check(text) {
-        Answer::Read { cells, length } => length as usize == text.len(),
-        Answer::Ran {
-            ending,
-            steps,
-            cells,
-            length,
-        } => false,
-        Answer::Refused(refusal) => false,
+    match ask(text) {
+        Asked::Acceptable { length } => length as usize == text.len(),
+        Asked::Unacceptable => false,
     }
 }
 
-// A text that CHECK accepts and whose plan has no ready operator.
+// An acceptable text whose plan has no ready operator.
 pub fn reads_finished(text: &[u8]) -> bool
     ensures { λ r. ⌜ r ≡ is-finished standard (now (text .entry)) ⌝ }
 {
-    match services::check(text) {
-        Answer::Read { cells, length } => finished::is_finished(text),
-        Answer::Ran {
-            ending,
-            steps,
-            cells,
-            length,
-        } => false,
-        Answer::Refused(refusal) => false,
+    if is_acceptable(text) {
+        return finished::is_finished(text);
     }
+    false
 }
 
 // How a job stands: not filed, filed last by the entry at a place, with its text, or done by the entry at a place.

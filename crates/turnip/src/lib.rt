@@ -4,7 +4,7 @@
 ghost use mathlib.Core.Path.{_≡_};
 ghost use lib.ListN.{getD, set};
 ghost use Rattle.plan.specs.Services.{numbers};
-ghost use Rattle.services.specs.Calls.{Checks, Runs, Tidies};
+ghost use Rattle.services.specs.Calls.{ReadsOut, Runs};
 ghost use Rattle.filing.specs.Answers.{close-job, edition-1, file, grown, one-entry, roll-numbers};
 ghost use Rattle.roll.specs.Calls.{Lists};
 ghost use Rattle.words.specs.Answers.{link-numbers};
@@ -36,17 +36,10 @@ fn store(given: Answer, answer: &mut [u32; 5])
 }
 
 #[no_mangle]
-pub extern "C" fn turnip_check(text: &[u8], answer: &mut [u32; 5])
-    ensures { λ _. ⌜ Answers (λ r. Checks (now (text .entry)) r) (now (answer .exit)) ⌝ }
+pub extern "C" fn turnip_read(text: &[u8], out: &mut [u8], answer: &mut [u32; 5])
+    ensures { λ _. ⌜ Answers (λ r. ReadsOut (now (text .entry)) (now (out .entry)) r (now (out .exit))) (now (answer .exit)) ⌝ }
 {
-    store(services::check(text), answer);
-}
-
-#[no_mangle]
-pub extern "C" fn turnip_tidy(text: &[u8], out: &mut [u8], answer: &mut [u32; 5])
-    ensures { λ _. ⌜ Answers (λ r. Tidies (now (text .entry)) (now (out .entry)) r (now (out .exit))) (now (answer .exit)) ⌝ }
-{
-    store(services::tidy(text, out), answer);
+    store(services::read(text, out), answer);
 }
 
 #[no_mangle]

@@ -9,18 +9,14 @@ use mathlib.Core.List.{List, [], _∷_, _++_, append-nil, reverse}
 use native.Mathlib.Omega.{arith}
 use borrow.Author.Tests.{le-ltb}
 use lib.ListN.{length, length-append, take}
-use Rattle.kinds.specs.Limits.{cellLimit, tokenLimit}
-use Rattle.plan.specs.Plan.{print}
-use Rattle.plan.specs.Reading.{HoldsAnnotation, PLAN, REFUSED, Reading}
-use Rattle.plan.specs.Services.{accept, standard}
+use Rattle.kinds.specs.Limits.{tokenLimit}
+use Rattle.plan.specs.Reading.{HoldsAnnotation}
+use Rattle.plan.specs.Services.{standard}
 use Rattle.plan.proofs.Annotations.{print-no-annotation}
-use Rattle.plan.proofs.ReadBack.{read-accepted}
-use Rattle.plan.proofs.Slots.{accepted-text}
-use Rattle.plan.proofs.Tests.{and-false, false-is-not-true, never}
-use Rattle.stored.proofs.Same.{same-equal}
+use Rattle.plan.proofs.Tests.{and-false, never}
 use Rattle.filing.specs.Answers.{Added, READS, REFUSES, Read, add-to, by-rules, edition-1, file, filing-fault, in-use, judged, longest, roll-numbers, unbroken}
 use Rattle.filing.specs.Format.{Entry, Listing, roll}
-use Rattle.filing.specs.Rules.{FILED, broken, is-job, is-printed, obeys, printed-as, says}
+use Rattle.filing.specs.Rules.{FILED, broken, is-job, is-printed, obeys, says}
 use Rattle.filing.specs.declared.RollAnswer.{RollAnswer}
 use Rattle.filing.specs.declared.RollRefusal.the-variants.{BadRoll, BadText}
 use Rattle.filing.specs.declared.Tally.{Tally}
@@ -28,6 +24,7 @@ use Rattle.filing.proofs.Adding.{fault-first}
 use Rattle.filing.proofs.Reading.{read-refuses}
 use Rattle.filing.proofs.Rules.{obeys-filed}
 use Rattle.filing.proofs.Sound.{Blank, SoundRoll, reads-sound}
+use Rattle.filing.proofs.Texts.{printed-text}
 use Rattle.keeping.specs.Calls.{Adds}
 use Rattle.roll.specs.Calls.{Lists}
 use Rattle.unlost.specs.Words.{BADROLL, BADTEXT, RollReads}
@@ -36,14 +33,9 @@ use Rattle.unlost.proofs.Cut.{broken-front}
 
 -- a printed text holds none
 printed-unannotated : (text : List ℕ) → is-printed standard text ≡ true → HoldsAnnotation text → ⊥
-unfolding is-printed printed-as
-printed-unannotated text e = go (accept standard cellLimit text) refl e
-  where
-    go : (x : Reading) → accept standard cellLimit text ≡ x → printed-as text x ≡ true → HoldsAnnotation text → ⊥
-    go (REFUSED r) h e = false-is-not-true e
-    go (PLAN p) h e =
-        let fine = read-accepted tokenLimit cellLimit text (accepted-text standard cellLimit text h .reads) .fine in
-        subst (λ t. HoldsAnnotation t → ⊥) (sym (same-equal text (print p) e)) (print-no-annotation tokenLimit p fine)
+printed-unannotated text e =
+    let (a, is) = printed-text standard text e in
+    subst (λ t. HoldsAnnotation t → ⊥) (sym is) (print-no-annotation tokenLimit (a .plan) (a .fine))
 
 -- a text that holds one
 module _ (text : List ℕ) (annotated : HoldsAnnotation text) where

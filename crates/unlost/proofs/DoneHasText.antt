@@ -9,14 +9,13 @@ use native.Mathlib.Omega.{arith}
 use lib.ListN.{length, length-append}
 use Rattle.kinds.specs.Limits.{cellLimit}
 use Rattle.plan.specs.Plan.{bare}
-use Rattle.plan.specs.Reading.{Reading, PLAN, REFUSED}
 use Rattle.plan.specs.Rewriting.{finished}
-use Rattle.plan.specs.Services.{accept, standard}
+use Rattle.plan.specs.Services.{standard}
 use Rattle.plan.proofs.Rewrites.{finished-relabel, finished-when}
 use Rattle.plan.proofs.Tests.{never}
 use Rattle.filing.specs.Format.{Entry}
 use Rattle.stored.specs.Same.{same}
-use Rattle.filing.specs.Rules.{DONE, DONE-AT, FILED, FILED-AT, NEITHER, EntrySays, JobStanding, UNFILED, broken, finished-as, is-finished, may-close, may-file, newest, obeys, says, standing}
+use Rattle.filing.specs.Rules.{DONE, DONE-AT, FILED, FILED-AT, NEITHER, EntrySays, JobStanding, UNFILED, broken, is-finished, may-close, may-file, newest, obeys, says, standing}
 use Rattle.filing.proofs.Rules.{obeys-done, obeys-filed}
 use Rattle.stored.proofs.Same.{same-equal, same-self}
 use Rattle.demands.specs.Words.{Bare, NoRuleApplies, Reads}
@@ -24,6 +23,7 @@ use Rattle.unlost.specs.Words.{HasText, NoneOf, RollReads, of-job}
 use Rattle.unlost.proofs.Adding.{broken-on}
 use Rattle.unlost.proofs.Cut.{broken-front}
 use Rattle.filing.proofs.Sound.{Blank, SoundRoll, reads-sound}
+use Rattle.filing.proofs.Texts.{finished-text}
 
 -- the entry by which a job stands filed: it is the newest of that job
 record FiledBy (job : List ℕ) (past : List Entry) (text : List ℕ) : Type 0 where
@@ -92,14 +92,14 @@ record FinishedText (text : List ℕ) : Type 0 where
   reads : Reads cellLimit text plan
   finished : NoRuleApplies plan
 
-finished-text : (text : List ℕ) → is-finished standard text ≡ true → FinishedText text
-unfolding is-finished finished-as
-finished-text text e = go (accept standard cellLimit text) refl e
-  where
-    go : (x : Reading) → accept standard cellLimit text ≡ x → finished-as x ≡ true → FinishedText text
-    go (REFUSED r) a h = absurd (false≢true h)
-    go (PLAN p) a h =
-        record { plan = bare p; reads = record { placed = p; accepted = a; same = refl }; finished = finished-when (bare p) .0 (finished-relabel (λ l. tt) p ∙ h) }
+finished-reads : (text : List ℕ) → is-finished standard text ≡ true → FinishedText text
+finished-reads text e =
+    let (a, stuck) = finished-text standard text e in
+    record {
+      plan = bare (a .plan);
+      reads = record { placed = a .plan; accepted = a .accepted; same = refl };
+      finished = finished-when (bare (a .plan)) .0 (finished-relabel (λ l. tt) (a .plan) ∙ stuck);
+    }
 
 -- what a DONE that obeys the rules asks for
 closes : (past : List Entry) (job : List ℕ) → obeys standard past (DONE job) ≡ true → (place : ℕ) × (text : List ℕ) × (standing job past ≡ FILED-AT place text) × (is-finished standard text ≡ true)
@@ -132,7 +132,7 @@ done-has-text roll before after e {end} r job is = go (reads-sound roll r)
     by true good h =
         let (place, text, stands, finished) = closes (reverse before) job (sym (ap (obeys standard (reverse before)) is) ∙ good) in
         let f = filing-of job (reverse before) stands in
-        let t = finished-text text finished in
+        let t = finished-reads text finished in
         record {
           earlier = reverse (f .older);
           filing = f .filing;

@@ -23,7 +23,7 @@ use Rattle.filing.proofs.Rules.{obeys-filed}
 use Rattle.stored.proofs.Same.{same-self, same-equal}
 use Rattle.filing.specs.Format.{Entry, Listing, roll}
 use Rattle.stored.specs.Same.{same}
-use Rattle.filing.specs.Rules.{finished-as, is-finished, is-job, is-printed, newest, printed-as, says, standing, DONE, DONE-AT, EntrySays, FILED, FILED-AT, JobStanding, NEITHER, UNFILED, broken, obeys}
+use Rattle.filing.specs.Rules.{is-finished, is-job, is-printed, newest, says, standing, DONE, DONE-AT, EntrySays, FILED, FILED-AT, JobStanding, NEITHER, UNFILED, broken, obeys}
 use Rattle.filing.specs.declared.RollAnswer.{RollAnswer}
 use Rattle.filing.specs.declared.RollRefusal.the-variants.{BadJob, BadText, Unfinished, AlreadyDone, BadRoll, TooLong}
 use Rattle.filing.specs.declared.Tally.{Tally}
@@ -37,21 +37,20 @@ use Rattle.demands.proofs.Meanings as meanings
 use Rattle.unlost.specs.Words.{NOROOM, UNFINISHED, BADTEXT, FiledLast, RollReads}
 use Rattle.unlost.proofs.Kept.{filed-is-last}
 use Rattle.filing.specs.declared.RollRefusal.{RollRefusal}
+use Rattle.filing.proofs.Texts.{finished-by-plan, printed-by-plan}
 use Rattle.filing.proofs.Sound.{Blank, SoundRoll, reads-sound}
 use lib.Dec.{ltb}
 
 -- a text that is its plan's printed text
 module _ {text : List ℕ} {q : Bare} (reads : Reads cellLimit text q) where
   pub printed-is : text ≡ print q → is-printed standard text ≡ true
-  unfolding is-printed printed-as
   printed-is e =
       let prints : print (reads .placed) ≡ text = sym (print-relabel (λ l. tt) (reads .placed)) ∙ ap print (reads .same) ∙ sym e in
-      ap (printed-as text) (reads .accepted) ∙ ap (same text) prints ∙ same-self text
+      printed-by-plan standard text (reads .accepted) ∙ ap (same text) prints ∙ same-self text
 
   pub is-finished-when : (is-finished standard text ≡ true) ↔ NoRuleApplies q
-  unfolding is-finished finished-as
   is-finished-when =
-      let told : is-finished standard text ≡ finished (reads .placed) = ap finished-as (reads .accepted) in
+      let told : is-finished standard text ≡ finished (reads .placed) = finished-by-plan standard text (reads .accepted) in
       let alike : finished q ≡ finished (reads .placed) = ap finished (sym (reads .same)) ∙ finished-relabel (λ l. tt) (reads .placed) in
       (λ e. finished-when q .0 (alike ∙ sym told ∙ e), λ stuck. told ∙ sym alike ∙ finished-when q .1 stuck)
 

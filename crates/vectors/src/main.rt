@@ -1,11 +1,11 @@
-// Runs CHECK, TIDY and RUN on each case of standard input, and says how many do not answer or write what the case expects,
+// Runs READ and RUN on each case of standard input, and says how many do not answer or write what the case expects,
 // and how many runs leave a number of the memory that is not 0 or change a byte of the output past the text.
 //
 // A case is a line, made by tests/vectors-to-stdin.py:
 //
 //     KIND QUOTA MEMLEN OUTLEN NUMBER STEPS CELLS LENGTH PLACE TEXT OUT
 //
-// Fields are parted by one SP, and the last is ended by LF. KIND is 1 for CHECK, 2 for TIDY and 3 for RUN. What a
+// Fields are parted by one SP, and the last is ended by LF. KIND is 1 for READ and 2 for RUN. What a
 // kind has not, its line has as 0. Numbers are decimal. TEXT, what the service is given, and OUT, what it is to write,
 // are bytes: the number of their runs, then for each run its LENGTH in bytes and its pattern in hex, which is repeated
 // until LENGTH bytes are filled. So `2 3 5b 1 5d` is `[[[]`, and `0` is no bytes.
@@ -45,11 +45,9 @@ const OUTPUT: usize = Token::LIMIT * Cell::LIMIT;
 // More numbers than a run may be lent, for the cases that are BADARENA.
 const MEMORY: usize = 100_000;
 
-const CHECK: usize = 1;
+const READ: usize = 1;
 
-const TIDY: usize = 2;
-
-const RUN: usize = 3;
+const RUN: usize = 2;
 
 // The largest quota that a call takes.
 const QUOTA: usize = 4_294_967_295;
@@ -68,11 +66,11 @@ fn is_expected(answer: Answer, case: Case) -> bool {
         && wide(numbers.place) == case.place
 }
 
-// Whether TIDY answers and writes what a case expects. What the output is to become was made beside it, so that one
+// Whether READ answers and writes what a case expects. What the output is to become was made beside it, so that one
 // comparison holds each byte to the text expected or to what the output was filled with.
-fn tidies(case: Case, text: &[u8], output: &mut [u8], expected: &[u8]) -> bool {
+fn reads(case: Case, text: &[u8], output: &mut [u8], expected: &[u8]) -> bool {
     fill_output(output);
-    let answer = services::tidy(text, output);
+    let answer = services::read(text, output);
     if is_expected(answer, case) {
         return same(output, expected);
     }
@@ -112,8 +110,7 @@ fn call(
 ) -> LineReport {
     let kind = case.kind;
     match kind {
-        CHECK => LineReport::Checked(is_expected(services::check(text), case)),
-        TIDY => LineReport::Tidied(tidies(case, text, output, expected)),
+        READ => LineReport::Read(reads(case, text, output, expected)),
         RUN => runs(case, text, memory, output, expected),
         _ => LineReport::Malformed,
     }

@@ -7,8 +7,7 @@ const POINTED_OUT: u64 = 10;
 
 // What came of a line; of a case that was run, whether all was as expected.
 pub enum LineReport {
-    Checked(bool),
-    Tidied(bool),
+    Read(bool),
     Ran(RunReport),
     Malformed,
 }
@@ -36,8 +35,7 @@ pub struct Report {
     lines: u64,
     // The lines that differ or are malformed.
     faults: u64,
-    check: Tally,
-    tidy: Tally,
+    read: Tally,
     run: RunTally,
 }
 
@@ -73,8 +71,7 @@ impl RunReport {
 impl LineReport {
     fn is_fault(self) -> bool {
         match self {
-            LineReport::Checked(as_expected) => !as_expected,
-            LineReport::Tidied(as_expected) => !as_expected,
+            LineReport::Read(as_expected) => !as_expected,
             LineReport::Ran(run) => run.is_fault(),
             LineReport::Malformed => true,
         }
@@ -165,8 +162,7 @@ impl Report {
         Self {
             lines: 0,
             faults: 0,
-            check: Tally::new(),
-            tidy: Tally::new(),
+            read: Tally::new(),
             run: RunTally::new(),
         }
     }
@@ -175,15 +171,11 @@ impl Report {
     pub fn after(self, outcome: LineReport) -> Self {
         let lines = one_more(self.lines);
         let faults = outcome.count_fault(lines, self.faults);
-        let mut check = self.check;
-        let mut tidy = self.tidy;
+        let mut read = self.read;
         let mut run = self.run;
         match outcome {
-            LineReport::Checked(as_expected) => {
-                check = check.after(as_expected);
-            }
-            LineReport::Tidied(as_expected) => {
-                tidy = tidy.after(as_expected);
+            LineReport::Read(as_expected) => {
+                read = read.after(as_expected);
             }
             LineReport::Ran(ran) => {
                 run = run.after(ran);
@@ -193,18 +185,15 @@ impl Report {
         Self {
             lines,
             faults,
-            check,
-            tidy,
+            read,
             run,
         }
     }
 
     pub fn print(self) {
-        let check = self.check;
-        let tidy = self.tidy;
+        let read = self.read;
         let run = self.run;
-        check.print(b"check ");
-        tidy.print(b"\ntidy ");
+        read.print(b"read ");
         run.print(b"\nrun ");
         say(b"\n");
         say_count(self.lines);

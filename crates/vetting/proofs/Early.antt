@@ -10,7 +10,8 @@ use lib.ListN.{getD}
 use Rattle.kinds.specs.Limits.{tokenLimit}
 use Rattle.plan.specs.Pieces.{pieces}
 use Rattle.plan.specs.Plan.{Plan}
-use Rattle.words.specs.Linking.{holds, plan-of, used}
+use Rattle.plan.specs.Reading.{plan-of}
+use Rattle.words.specs.Linking.{holds, used}
 use Rattle.shelf.specs.Shelf.{Readable, Shelved, word-from, word-of, words-to}
 use Rattle.shelf.proofs.Standing.{shelved-below, word-text}
 use Rattle.vetting.specs.Vetting.{OwnNames, earliest, lowered}

@@ -10,8 +10,9 @@ use lib.ListN.{length, take, drop, length-drop}
 use lib.Seq.{drop-cons, drop-length, length-take-le}
 use Rattle.kinds.specs.Limits.{tokenLimit}
 use Rattle.plan.specs.Pieces.{Shows, pieces}
-use Rattle.plan.specs.Services.{Limits, standard}
+use Rattle.plan.specs.Services.{Limits, acceptable, standard}
 use Rattle.plan.specs.Token.{allowed}
+use Rattle.plan.proofs.Acceptable.{acceptable-plan}
 use Rattle.plan.proofs.Tests.{and-false, and-true}
 use Rattle.plan.proofs.Tokens.{allowed-parts}
 use Rattle.stored.specs.Counted.{AtFront, CUT, FRONT}
@@ -19,8 +20,7 @@ use Rattle.stored.specs.Places.{run-at}
 use Rattle.stored.specs.declared.RunAt.the-variants.{Whole}
 use Rattle.stored.proofs.Places.{run-found}
 use Rattle.words.specs.Linking.{Word, listed, percent, stock-token}
-use Rattle.words.specs.Stock.{acceptable, fits, is-name, word}
-use Rattle.words.proofs.Listing.{acceptable-plan}
+use Rattle.words.specs.Stock.{fits, is-name, word}
 use Rattle.shelf.specs.Shelf.{Readable}
 use Rattle.shelf.proofs.Words.{word-whole}
 use Rattle.vetting.specs.Vetting.{FitThere, Fitting, fit-front, fitting, is-new-name, next-fitting}

@@ -4,5 +4,4 @@ pub mod Lowering
 pub mod Names
 pub mod Ranks
 pub mod Shelving
-pub mod Texts
 pub mod Verdict

@@ -16,7 +16,8 @@ use Rattle.pieces.specs.declared.Piece.{Piece as CodePiece}
 use Rattle.items.specs.Walk.{Passed, ShowsAhead}
 use Rattle.stored.specs.Same.{same}
 use Rattle.stored.proofs.Same.{same-false, same-true}
-use Rattle.words.specs.Linking.{holds, plan-of}
+use Rattle.plan.specs.Reading.{plan-of}
+use Rattle.words.specs.Linking.{holds}
 use Rattle.shelf.specs.Shelf.{PieceStands, Readable, Shelved, seek, seek-piece}
 use Rattle.shelf.specs.declared.Named.{Named}
 use Rattle.shelf.specs.declared.Named.the-variants.{Unlisted, Listed}

@@ -11,7 +11,8 @@ use Rattle.kinds.specs.Limits.{tokenLimit}
 use Rattle.plan.proofs.Tests.{false-is-not-true, never}
 use Rattle.stored.specs.Same.{same}
 use Rattle.stored.proofs.Same.{same-equal, same-false, same-self}
-use Rattle.words.specs.Linking.{holds, listed, plan-of, stock-token, used}
+use Rattle.plan.specs.Reading.{plan-of}
+use Rattle.words.specs.Linking.{holds, listed, stock-token, used}
 use Rattle.words.proofs.Listing.{stands-none}
 use Rattle.shelf.specs.Shelf.{seek, word-of, words-to}
 use Rattle.shelf.specs.declared.Named.the-variants.{Unlisted, Listed}

@@ -9,15 +9,15 @@ ghost use Rattle.kinds.specs.Limits.{tokenLimit};
 ghost use Rattle.plan.specs.Pieces.{pieces};
 ghost use Rattle.plan.specs.Services.{standard};
 ghost use Rattle.plan.specs.Token.{all-permitted};
-ghost use Rattle.words.specs.Linking.{plan-of};
-ghost use Rattle.words.specs.Stock.{acceptable, is-name, stock, wordLimit};
+ghost use Rattle.plan.specs.Reading.{plan-of};
+ghost use Rattle.words.specs.Stock.{is-name, stock, wordLimit};
 ghost use Rattle.shelf.specs.Shelf.{Readable, Shelved, words-to};
 ghost use Rattle.vetting.specs.Vetting.{EndTells, VettedShelved, OwnNames, earliest, fitting, is-new-name, vetted-told, lower, lowered, shelf-told};
+use asking::is_acceptable;
 use items::Cursor;
 use items::NextPiece;
 use items::next;
 use kinds::Token;
-use plan::Answer;
 use plan::Character;
 use shelf::Named;
 use shelf::find;
@@ -78,22 +78,6 @@ fn is_name(name: &[u8]) -> bool
         return false;
     }
     are_permitted(name)
-}
-
-// CHECK answers READ.
-fn is_acceptable(text: &[u8]) -> bool
-    ensures { λ r. ⌜ r ≡ acceptable standard (now (text .entry)) ⌝ }
-{
-    match services::check(text) {
-        Answer::Read { cells, length } => true,
-        Answer::Ran {
-            ending,
-            steps,
-            cells,
-            length,
-        } => false,
-        Answer::Refused(refusal) => false,
-    }
 }
 
 // Whether a name is one, and none of the words below the rank has it.

@@ -10,27 +10,22 @@ use native.Mathlib.Omega.{arith}
 use borrow.Author.Tests.{leb-true, not-true}
 use lib.Dec.{leb}
 use lib.ListN.{length}
-use Rattle.plan.specs.Pieces.{Shows, pieces}
-use Rattle.plan.specs.Plan.{Plan, end, cells, print}
-use Rattle.plan.specs.Reading.{Reading, PLAN, REFUSED, outermost, read-from, OUTSIDE, without-marks}
-use Rattle.plan.specs.Services.{Limits, accept}
+use Rattle.plan.specs.Plan.{Plan}
+use Rattle.plan.specs.Reading.{plan-of}
+use Rattle.plan.specs.Services.{Limits, acceptable}
 use Rattle.plan.specs.Token.{Allowed}
-use Rattle.plan.proofs.ReadBack.{read-accepted}
-use Rattle.plan.proofs.Refusals.{read-faultless}
-use Rattle.plan.proofs.Slots.{accepted-text}
+use Rattle.plan.proofs.Acceptable.{acceptable-plan}
 use Rattle.plan.proofs.Tests.{and-true, false-is-not-true, never}
 use Rattle.stored.specs.Counted.{AtFront, CUT, FRONT, number}
 use Rattle.stored.specs.Same.{same}
 use Rattle.stored.proofs.Same.{same-equal, same-false, same-self}
-use Rattle.words.specs.Linking.{Word, holds, link, listed, plan-in, plan-of, stands-for, stock-token, used}
+use Rattle.words.specs.Linking.{Word, holds, link, listed, stands-for, stock-token, used}
 use Rattle.words.specs.Stock.{
   FAULT,
   Stock,
   WORDS,
-  acceptable,
   as-counted,
   fits,
-  is-read,
   is-name,
   next-word,
   right,
@@ -40,41 +35,6 @@ use Rattle.words.specs.Stock.{
   wordLimit,
 }
 use Rattle.words.proofs.Linked.{allowed-link, holds-link, link-unlisted, neither}
-
--- what is known of an acceptable text and of its plan
-pub record AcceptableText (lim : Limits) (text : List ℕ) : Type 0 where
-  pub plan : Plan ℕ
-  pub accepted : accept lim (lim .cells) text ≡ PLAN plan
-  pub reads : read-from (lim .token) 0 0 outermost end text ≡ PLAN plan
-  pub plan-is : plan-of (lim .token) text ≡ plan
-  pub short : length text ≤ lim .text
-  pub fits : cells plan ≤ lim .cells
-  pub fine : Allowed (lim .token) plan
-  pub shows : Shows (lim .token) 0 text (pieces plan)
-  pub printed : print plan ≡ without-marks OUTSIDE text
-
--- a text that CHECK reads has a plan, of so many cells at most, and it is the plan of the text
-pub acceptable-plan : (lim : Limits) (text : List ℕ) → acceptable lim text ≡ true → AcceptableText lim text
-unfolding acceptable is-read plan-of plan-in
-acceptable-plan lim text e = go (accept lim (lim .cells) text) refl e
-  where
-    go : (x : Reading) → accept lim (lim .cells) text ≡ x → is-read x ≡ true → AcceptableText lim text
-    go (REFUSED r) h e = false-is-not-true e
-    go (PLAN p) h e =
-        let t = accepted-text lim (lim .cells) text h in
-        let known = read-accepted (lim .token) (lim .cells) text (t .reads) in
-        let from-start = read-faultless (lim .token) (lim .cells) text (t .reads) .2 in
-        record {
-          plan = p;
-          accepted = h;
-          reads = from-start;
-          plan-is = ap plan-in from-start;
-          short = t .short;
-          fits = known .fits;
-          fine = known .fine;
-          shows = known .shows;
-          printed = known .printed;
-        }
 
 -- a right word, part by part
 pub record RightWord (lim : Limits) (older : List Word) (w : Word) : Type 0 where

@@ -5,7 +5,7 @@ use mathlib.Core.Bool.{Bool, false, cond, _||_}
 use mathlib.Core.Option.{Option, none, some}
 use mathlib.Core.List.{List, [], _∷_}
 use Rattle.plan.specs.Plan.{Plan, end, operator, token, block, _then_}
-use Rattle.plan.specs.Reading.{Reading, PLAN, REFUSED, outermost, read-from}
+use Rattle.plan.specs.Reading.{plan-of}
 use Rattle.stored.specs.Same.{same}
 
 pub record Word : Type 0 where
@@ -18,14 +18,6 @@ percent = 37
 
 abbrev pub stock-token : Word → List ℕ
 stock-token w = percent ∷ w .name
-
--- the plan that a text reads as, however many cells it has; for a text with a fault, the empty plan
-unfoldable pub plan-in : Reading → Plan ℕ
-plan-in (PLAN p) = p
-plan-in (REFUSED r) = end
-
-unfoldable pub plan-of : (limit : ℕ) → List ℕ → Plan ℕ
-plan-of limit text = plan-in (read-from limit 0 0 outermost end text)
 
 -- the items that a token stands for, spliced into its sequence; a token that stands for none stays
 unfoldable pub in-place : {L : Type 0} → Option (Plan L) → L → List ℕ → Plan L → Plan L

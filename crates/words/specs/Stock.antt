@@ -1,11 +1,10 @@
 -- A word list: a count, then for each word its name and its text, each behind its own count; and the least rank at fault.
 use Prim.Native.Nat.{ℕ, zero, suc}
-use mathlib.Core.Bool.{Bool, true, false, cond, not, _&&_}
+use mathlib.Core.Bool.{Bool, cond, not, _&&_}
 use mathlib.Core.List.{List, [], _∷_}
 use lib.Dec.{leb}
 use lib.ListN.{length}
-use Rattle.plan.specs.Reading.{Reading, PLAN, REFUSED}
-use Rattle.plan.specs.Services.{Limits, accept}
+use Rattle.plan.specs.Services.{Limits, acceptable}
 use Rattle.plan.specs.Token.{allowed}
 use Rattle.stored.specs.Counted.{AtFront, CUT, FRONT, counted, number, then-read}
 use Rattle.words.specs.Linking.{Word, listed, percent, stock-token, used}
@@ -16,14 +15,6 @@ wordLimit = 256
 
 unfoldable pub word : List ℕ → AtFront Word
 word bs = then-read (counted bs) (λ name rest. then-read (counted rest) (λ text later. FRONT (record { name = name; text = text }) later))
-
--- acceptable: CHECK answers READ
-unfoldable pub is-read : Reading → Bool
-is-read (PLAN p) = true
-is-read (REFUSED r) = false
-
-unfoldable pub acceptable : Limits → List ℕ → Bool
-acceptable lim text = is-read (accept lim (lim .cells) text)
 
 -- a name is not empty and makes an allowed token
 unfoldable pub is-name : Limits → (name : List ℕ) → Bool

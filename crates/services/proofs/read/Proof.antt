@@ -1,8 +1,8 @@
--- `tidy`: a refusal, 18, or the text without its marks in front of an output that is otherwise as it was.
+-- `read`: a refusal, 18, or the text without its marks in front of an output that is otherwise as it was.
 use borrow.Author.Needs.{needs}
-use Rattle.services.proofs.Acceptance.{tidy-fits, tidy-refused, tidy-short, tidy-written}
-use Rattle.services.proofs.tidy.Statement.{statement}
-use Rattle.services.proofs.tidy.Tie as tie
+use Rattle.services.proofs.Acceptance.{read-fits, read-refused, read-short, read-written}
+use Rattle.services.proofs.read.Statement.{statement}
+use Rattle.services.proofs.read.Tie as tie
 
 look-over-requires : tie.Need-look-over-requires
 look-over-requires c κs = search needs
@@ -19,14 +19,14 @@ cast-if1 c = search needs
 returns : tie.Need-returns
 returns c =
     let k = c .before .before in
-    tidy-short _ (k .before .before .look-over .ensures) _ (k .cells .given .1) (c .if1 .taken)
+    read-short _ (k .before .before .look-over .ensures) _ (k .cells .given .1) (c .if1 .taken)
 
 put-tidied-requires : tie.Need-put-tidied-requires
-put-tidied-requires c κs = search (needs, tidy-fits)
+put-tidied-requires c κs = search (needs, read-fits)
 
 returns-2 : tie.Need-returns-2
 returns-2 c =
-    tidy-refused _ (c .before .before .before .look-over .ensures) _ (c .before .refusal .given .1)
+    read-refused _ (c .before .before .before .look-over .ensures) _ (c .before .refusal .given .1)
 
 same-length : tie.Need-same-length
 same-length c = search needs
@@ -36,10 +36,10 @@ returns-3 c =
     let p = c .before .before in
     let e = p .before .before in
     let k = e .before .before in
-    tidy-written _ (k .before .before .look-over .ensures) _ (k .cells .given .1) (e .if1 .left) (p .put-tidied .ensures)
+    read-written _ (k .before .before .look-over .ensures) _ (k .cells .given .1) (e .if1 .left) (p .put-tidied .ensures)
 
-pub tidy-spec : {M : Type 1} → statement M
-tidy-spec =
+pub read-spec : {M : Type 1} → statement M
+read-spec =
     tie.close
     (tie.spec
     look-over-requires

@@ -1,0 +1,125 @@
+-- Request 4: "A text is acceptable when nothing but OUTSHORT could refuse it", and "An output of no bytes gives OUTSHORT and the bytes
+-- needed, unless the plan is empty." The output changes no other refusal. And what shuts out two bad versions of READ.
+use Prim.Native.Nat.{ℕ, _≤_}
+use mathlib.Core.Path.{_≡_, refl, ap, sym, _∙_}
+use mathlib.Core.Logic.{_↔_, _≢_}
+use mathlib.Core.Bool.{true}
+use mathlib.Core.List.{List, []}
+use native.Mathlib.Omega.{arith}
+use lib.ListN.{drop, length}
+use lib.Seq.{take-append-seam}
+use Rattle.kinds.specs.Limits.{cellLimit}
+use Rattle.plan.specs.declared.Answer.{Answer}
+use Rattle.plan.specs.declared.Answer.the-variants.{Read}
+use Rattle.plan.specs.declared.Numbers.{Numbers}
+use Rattle.plan.specs.declared.Operator.the-variants.{A}
+use Rattle.plan.specs.declared.Refusal.{Refusal}
+use Rattle.plan.specs.declared.Refusal.the-variants.{OutShort}
+use Rattle.plan.specs.Plan.{_then_, bare, block, cells, end, labels, letter, operator, print, relabel, token}
+use Rattle.plan.specs.Reading.{class, fit, go-on, mark, move, read, read-from}
+use Rattle.plan.specs.Services.{accept, acceptable, numbers, refusal-number, standard}
+use Rattle.plan.specs.Worked.{bytes}
+use Rattle.plan.proofs.Acceptable.{acceptable-plan, accepted-acceptable}
+use Rattle.services.specs.Calls.{ReadsOut}
+use Rattle.demands.specs.Words.{Bare, IsRefusal, OUTSHORT, Reads, refusal, saved}
+use Rattle.demands.proofs.Answered.{every-read-answered}
+use Rattle.demands.proofs.Cases.{ReadCase, bad-text, is-read, out-short, read-case}
+use Rattle.demands.proofs.Meanings.{reads-not-refused, reads-one}
+use Rattle.demands.proofs.Numbers.{number-not-outshort, refusal-over}
+use Rattle.demands.proofs.PassedOn.{read-refuses}
+
+-- the equivalent, in the words of the demands; `acceptable-exactly-when` of the definitions' laws spells out the limits
+pub acceptable-reads : (text : List ℕ) → (acceptable standard text ≡ true) ↔ ((p : Bare) × Reads cellLimit text p)
+acceptable-reads text = (
+  λ e. let a = acceptable-plan standard text e in (bare (a .plan), record { placed = a .plan; accepted = a .accepted; same = refl }),
+  λ (p, reads). accepted-acceptable standard text (reads .accepted),
+)
+
+-- "nothing but OUTSHORT could refuse it": no call of READ is refused otherwise, whatever its output
+pub nothing-but-outshort : (text : List ℕ) → (acceptable standard text ≡ true)
+    ↔ ((out : List ℕ) (r : Answer) (out′ : List ℕ) → ReadsOut text out r out′ → IsRefusal r → numbers r .number ≡ OUTSHORT)
+nothing-but-outshort text = (λ e out r out′ call refused. to (acceptable-reads text .0 e .1) (read-case call) refused, λ h. from h)
+  where
+    to : {p : Bare} → Reads cellLimit text p → {out : List ℕ} {r : Answer} {out′ : List ℕ} → ReadCase text out r out′ → IsRefusal r
+        → numbers r .number ≡ OUTSHORT
+    to reads (bad-text g) refused = reads-not-refused reads g
+    to reads (out-short g short) refused = refl
+    to reads (is-read g fits) (x, h) = absurd (omega (arith, refusal-over x, ap (λ (v : Numbers). v .number) h))
+
+    by-case : {r : Answer} {out′ : List ℕ} → ReadCase text [] r out′ → (IsRefusal r → numbers r .number ≡ OUTSHORT) → acceptable standard text ≡ true
+    by-case (bad-text {x} g) h = absurd (number-not-outshort cellLimit text x g (h (x, refl)))
+    by-case (out-short g short) h = acceptable-reads text .1 (_, g)
+    by-case (is-read g fits) h = acceptable-reads text .1 (_, g)
+
+    from : ((out : List ℕ) (r : Answer) (out′ : List ℕ) → ReadsOut text out r out′ → IsRefusal r → numbers r .number ≡ OUTSHORT)
+        → acceptable standard text ≡ true
+    from h = let (r, out′, call) = every-read-answered text [] in by-case (read-case call) (h [] r out′ call)
+
+-- only the empty plan is printed as nothing
+nothing-printed : (p : Bare) → length (print p) ≤ 0 → p ≡ end
+unfolding print
+nothing-printed end h = refl
+nothing-printed (operator l o p) h = absurd (omega arith)
+nothing-printed (token l t p) h = absurd (omega arith)
+nothing-printed (block l b p) h = absurd (omega arith)
+
+module _ {text : List ℕ} {p : Bare} (reads : Reads cellLimit text p) where
+  -- "An output of no bytes gives OUTSHORT and the bytes needed, unless the plan is empty."
+  pub no-bytes-lent : {r : Answer} {out′ : List ℕ} → ReadsOut text [] r out′
+      → (p ≢ end → numbers r ≡ refusal (OutShort (length (print p)))) × (p ≡ end → numbers r ≡ numbers (Read 0 0))
+  unfolding print cells
+  no-bytes-lent call = go (read-case call)
+    where
+      go : {r : Answer} {out′ : List ℕ} → ReadCase text [] r out′
+          → (p ≢ end → numbers r ≡ refusal (OutShort (length (print p)))) × (p ≡ end → numbers r ≡ numbers (Read 0 0))
+      go (bad-text g) = reads-not-refused reads g
+      go (out-short {p = q} g short) = (
+        λ some. ap (λ (q : Bare). refusal (OutShort (length (print q)))) (reads-one g reads),
+        λ none. absurd (omega (arith, ap (λ (q : Bare). length (print q)) (reads-one g reads ∙ none))),
+      )
+      go (is-read {p = q} g fits) = (
+        λ some. absurd (some (sym (reads-one g reads) ∙ nothing-printed q fits)),
+        λ none. ap (λ (q : Bare). numbers (Read (cells q) (length (print q)))) (reads-one g reads ∙ none),
+      )
+
+  -- an output that is long enough gives READ, with the cells and the length
+  pub room-lent : {out : List ℕ} {r : Answer} {out′ : List ℕ} → ReadsOut text out r out′ → length (print p) ≤ length out
+      → r ≡ Read (cells p) (length (print p))
+  room-lent {out} call room = go (read-case call)
+    where
+      go : {r : Answer} {out′ : List ℕ} → ReadCase text out r out′ → r ≡ Read (cells p) (length (print p))
+      go (bad-text g) = reads-not-refused reads g
+      go (out-short g short) = absurd (omega (arith, ap (λ (q : Bare). length (print q)) (reads-one g reads)))
+      go (is-read g fits) = ap (λ (q : Bare). Read (cells q) (length (print q))) (reads-one g reads)
+
+-- any other refusal stands whatever the output
+pub refused-whatever-the-output : {text out out₂ : List ℕ} {r s : Answer} {out′ out₂′ : List ℕ} → ReadsOut text out r out′ → ReadsOut text out₂ s out₂′
+    → (x : Refusal) → refusal-number x ≢ OUTSHORT → (numbers r ≡ refusal x) ↔ (numbers s ≡ refusal x)
+refused-whatever-the-output call call₂ x other = (
+  λ told. read-refuses call₂ x other .0 (read-refuses call x other .1 told),
+  λ told. read-refuses call x other .0 (read-refuses call₂ x other .1 told),
+)
+
+-- A version that refuses all texts: the empty text is never refused, nor is any acceptable text with room for it.
+pub empty-text-read : {out : List ℕ} {r : Answer} {out′ : List ℕ} → ReadsOut [] out r out′ → r ≡ Read 0 0
+unfolding accept read read-from fit cells print relabel
+empty-text-read call =
+    let reads : Reads cellLimit [] end = record { placed = end; accepted = refl; same = refl } in
+    room-lent reads call (omega arith)
+
+-- A version that prints the text as read: of ` a` the blank is never printed.
+blank-a : Reads cellLimit (bytes " a") (operator tt A end)
+unfolding accept read read-from go-on move mark fit class cells labels _then_ bytes relabel
+blank-a = record { placed = operator 1 A end; accepted = refl; same = refl }
+
+pub marks-never-printed : {out : List ℕ} {r : Answer} {out′ : List ℕ} → ReadsOut (bytes " a") out r out′ → saved r out′ ≢ bytes " a"
+unfolding print letter bytes
+marks-never-printed {out} call = go (read-case call)
+  where
+    go : {r : Answer} {out′ : List ℕ} → ReadCase (bytes " a") out r out′ → saved r out′ ≢ bytes " a"
+    go (bad-text g) e = reads-not-refused blank-a g
+    go (out-short g short) e = absurd (omega (arith, ap length e))
+    go (is-read {p} g fits) e =
+        let printed : print p ≡ bytes " a" = sym (take-append-seam (print p) (drop (length (print p)) out)) ∙ e in
+        let same : print p ≡ bytes "a" = ap print (reads-one g blank-a) in
+        absurd (omega (arith, ap length (sym same ∙ printed)))
