@@ -34,7 +34,7 @@ use Rattle.memory.proofs.Whole.{lent-kept}
 use Rattle.engine.specs.Running.{RanAs, Runnable, Sized}
 use Rattle.engine.specs.declared.Ended.{Ended}
 use Rattle.services.specs.Calls.{Runs}
-use Rattle.services.specs.Writing.{Acceptable, Printable, Writes}
+use Rattle.services.specs.Writing.{Printable, TextAccepted, Writes}
 
 -- printing
 
@@ -81,7 +81,7 @@ same-run n quota p e plan runs = go (run-plan n quota p) refl
         let steps-same : steps ≡ e .steps = cc in
         record { read-plan = q; ran = is ∙ rw (ending-same, steps-same); alike = cc }
 
-module _ {text m : List ℕ} (outer : Cell) {size : ℕ} (k : Acceptable text m (outer .0) size) where
+module _ {text m : List ℕ} (outer : Cell) {size : ℕ} (k : TextAccepted text m (outer .0) size) where
   abbrev n : ℕ
   n = outer .0
 
@@ -176,8 +176,8 @@ module _ (text m : List ℕ) {s : Surveyed} (found : s ≡ surveyed (accept stan
     pub lent-few : length m / cellNumbers ≤ cellLimit
     lent-few = accepted-text standard (length m / cellNumbers) text (looked .accepted) .lent
 
-    acceptable : Acceptable text m (length m / cellNumbers) c
-    acceptable =
+    text-accepted : TextAccepted text m (length m / cellNumbers) c
+    text-accepted =
         let a = accepted-text standard (length m / cellNumbers) text (looked .accepted) in
         record {
           lent = record { room = omega arith; few = a .lent };
@@ -189,8 +189,8 @@ module _ (text m : List ℕ) {s : Surveyed} (found : s ≡ surveyed (accept stan
 
     -- the cells as `Cell::new` makes them
     module _ {outer : Cell} (is : outer .0 ≡ length m / cellNumbers) where
-      pub acceptable-cell : Acceptable text m (outer .0) c
-      acceptable-cell = rw is acceptable
+      pub accepted-cell : TextAccepted text m (outer .0) c
+      accepted-cell = rw is text-accepted
 
       pub writes-run : (quota : ℕ) {out out′ : List ℕ} {r : Answer} → Writes (run-read (outer .0) quota (read tokenLimit (outer .0) text)) out r out′
           → Writes (runs standard (length m / cellNumbers) quota text) out r out′

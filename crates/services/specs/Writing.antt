@@ -26,7 +26,7 @@ pub record Printable (text m : List ℕ) (e : Ended) : Type 0 where
   pub fits : length (print plan) ≤ printLimit
 
 -- the text was accepted, with so many cells lent, as a plan that has so many
-pub record Acceptable (text m : List ℕ) (n size : ℕ) : Type 0 where
+pub record TextAccepted (text m : List ℕ) (n size : ℕ) : Type 0 where
   pub lent : Lent n m
   pub short : length text ≤ textLimit
   pub plan : Plan ℕ

@@ -10,7 +10,7 @@ ghost use Rattle.plan.specs.Running.{RAN};
 ghost use Rattle.plan.specs.Services.{as-run, run-read, runs, standard};
 ghost use Rattle.engine.specs.Running.{Sized};
 ghost use Rattle.services.specs.Calls.{Runs};
-ghost use Rattle.services.specs.Writing.{Acceptable, Printable, Writes};
+ghost use Rattle.services.specs.Writing.{Printable, TextAccepted, Writes};
 use engine::Ended;
 use kinds::Cell;
 use loader::build_plan;
@@ -50,7 +50,7 @@ fn run_accepted(
     outer: Cell,
     size: u32,
 ) -> Answer
-    requires { ⌜ Acceptable (now text) (now memory) (outer .0) size ⌝ }
+    requires { ⌜ TextAccepted (now text) (now memory) (outer .0) size ⌝ }
     ensures written { λ r. ⌜ Writes (run-read (outer .0) quota (read tokenLimit (outer .0) (now (text .entry)))) (now (output .entry)) r (now (output .exit)) ⌝ }
     ensures as_long { λ r. ⌜ length (now (memory .exit)) ≡ length (now (memory .entry)) ⌝ }
 {

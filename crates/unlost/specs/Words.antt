@@ -62,7 +62,7 @@ pub record HasText (job : List ℕ) (before after : List Entry) : Type 0 where
   pub none-between : NoneOf job between
   pub none-after : NoneOf job after
 
--- the numbers of some refusals; 3 is `READ`, as of CHECK
+-- the numbers of some refusals; 3 is the demands' `READ`
 abbrev pub BADROLL : ℕ
 BADROLL = 31
 

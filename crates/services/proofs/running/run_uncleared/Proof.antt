@@ -1,6 +1,6 @@
 -- `run_uncleared`: a refusal, or the run of the accepted text.
 use borrow.Author.Needs.{needs}
-use Rattle.services.proofs.RunParts.{acceptable-cell, lent-few, writes-refusal, writes-run}
+use Rattle.services.proofs.RunParts.{accepted-cell, lent-few, writes-refusal, writes-run}
 use Rattle.services.proofs.running.run_uncleared.Statement.{statement}
 use Rattle.services.proofs.running.run_uncleared.Tie as tie
 
@@ -19,7 +19,7 @@ new-requires c κs = search lent-few
 run-accepted-requires : tie.Need-run-accepted-requires
 run-accepted-requires c κs =
     let k = c .before .before .before .before in
-    acceptable-cell _ _ (k .before .before .look-over .ensures) (k .cells .given .1) (c .new .ensures)
+    accepted-cell _ _ (k .before .before .look-over .ensures) (k .cells .given .1) (c .new .ensures)
 
 returns : tie.Need-returns
 returns c = (search writes-refusal, search needs)
