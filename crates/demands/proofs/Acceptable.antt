@@ -8,20 +8,21 @@ use mathlib.Core.List.{List, []}
 use native.Mathlib.Omega.{arith}
 use lib.ListN.{drop, length}
 use lib.Seq.{take-append-seam}
-use Rattle.kinds.specs.Limits.{cellLimit}
+use Rattle.kinds.specs.Limits.{cellLimit, tokenLimit}
 use Rattle.plan.specs.declared.Answer.{Answer}
 use Rattle.plan.specs.declared.Answer.the-variants.{Read}
 use Rattle.plan.specs.declared.Numbers.{Numbers}
-use Rattle.plan.specs.declared.Operator.the-variants.{A}
 use Rattle.plan.specs.declared.Refusal.{Refusal}
 use Rattle.plan.specs.declared.Refusal.the-variants.{OutShort}
-use Rattle.plan.specs.Plan.{_then_, bare, block, cells, end, labels, letter, operator, print, relabel, token}
-use Rattle.plan.specs.Reading.{class, fit, go-on, mark, move, read, read-from}
+use Rattle.plan.specs.Plan.{bare, block, cells, end, operator, print, relabel, token}
+use Rattle.plan.specs.Reading.{OUTSIDE, fit, read, read-from, without-marks}
 use Rattle.plan.specs.Services.{accept, acceptable, numbers, refusal-number, standard}
-use Rattle.plan.specs.Worked.{bytes}
 use Rattle.plan.proofs.Acceptable.{acceptable-plan, accepted-acceptable}
+use Rattle.plan.proofs.Plans.{print-relabel}
+use Rattle.plan.proofs.ReadBack.{read-accepted}
+use Rattle.plan.proofs.Slots.{accepted-text}
 use Rattle.services.specs.Calls.{ReadsOut}
-use Rattle.demands.specs.Words.{Bare, IsRefusal, OUTSHORT, Reads, refusal, saved}
+use Rattle.demands.specs.Words.{Bare, IsRefusal, OUTSHORT, Reads, Unrefused, refusal, saved}
 use Rattle.demands.proofs.Answered.{every-read-answered}
 use Rattle.demands.proofs.Cases.{ReadCase, bad-text, is-read, out-short, read-case}
 use Rattle.demands.proofs.Meanings.{reads-not-refused, reads-one}
@@ -107,19 +108,20 @@ empty-text-read call =
     let reads : Reads cellLimit [] end = record { placed = end; accepted = refl; same = refl } in
     room-lent reads call (omega arith)
 
--- A version that prints the text as read: of ` a` the blank is never printed.
-blank-a : Reads cellLimit (bytes " a") (operator tt A end)
-unfolding accept read read-from go-on move mark fit class cells labels _then_ bytes relabel
-blank-a = record { placed = operator 1 A end; accepted = refl; same = refl }
-
-pub marks-never-printed : {out : List ℕ} {r : Answer} {out′ : List ℕ} → ReadsOut (bytes " a") out r out′ → saved r out′ ≢ bytes " a"
-unfolding print letter bytes
-marks-never-printed {out} call = go (read-case call)
+-- A version that prints the text as read: what is saved is the text without its marks, so a text that has any is never printed as read.
+pub saved-without-marks : {text out : List ℕ} {r : Answer} {out′ : List ℕ} → ReadsOut text out r out′ → Unrefused r → saved r out′ ≡ without-marks OUTSIDE text
+saved-without-marks {text} {out} call = go (read-case call)
   where
-    go : {r : Answer} {out′ : List ℕ} → ReadCase (bytes " a") out r out′ → saved r out′ ≢ bytes " a"
-    go (bad-text g) e = reads-not-refused blank-a g
-    go (out-short g short) e = absurd (omega (arith, ap length e))
-    go (is-read {p} g fits) e =
-        let printed : print p ≡ bytes " a" = sym (take-append-seam (print p) (drop (length (print p)) out)) ∙ e in
-        let same : print p ≡ bytes "a" = ap print (reads-one g blank-a) in
-        absurd (omega (arith, ap length (sym same ∙ printed)))
+    printed : {p : Bare} → Reads cellLimit text p → print p ≡ without-marks OUTSIDE text
+    printed reads =
+        let known = read-accepted tokenLimit cellLimit text (accepted-text standard cellLimit text (reads .accepted) .reads) in
+        ap print (sym (reads .same)) ∙ print-relabel (λ l. tt) (reads .placed) ∙ known .printed
+
+    go : {r : Answer} {out′ : List ℕ} → ReadCase text out r out′ → Unrefused r → saved r out′ ≡ without-marks OUTSIDE text
+    go (bad-text {x} g) u = absurd (omega (arith, refusal-over x))
+    go (out-short {p} g short) u = absurd (omega (arith, refusal-over (OutShort (length (print p)))))
+    go (is-read {p} g fits) u = take-append-seam (print p) (drop (length (print p)) out) ∙ printed g
+
+pub marks-never-printed : {text out : List ℕ} {r : Answer} {out′ : List ℕ} → ReadsOut text out r out′ → Unrefused r
+    → without-marks OUTSIDE text ≢ text → saved r out′ ≢ text
+marks-never-printed call unrefused marked as-read = marked (sym (saved-without-marks call unrefused) ∙ as-read)

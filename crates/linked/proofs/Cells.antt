@@ -6,8 +6,8 @@ use mathlib.Core.List.{List, _∷_, _++_}
 use Rattle.kinds.specs.Limits.{tokenLimit}
 use Rattle.plan.specs.declared.Numbers.{Numbers}
 use Rattle.plan.specs.Plan.{Plan, cells}
-use Rattle.words.specs.Answers.{link-numbers}
 use Rattle.plan.specs.Reading.{plan-of}
+use Rattle.words.specs.Answers.{link-numbers}
 use Rattle.words.specs.Linking.{Word, listed, stands-for, stock-token}
 use Rattle.words.specs.Places.{cells-put, weighed, weight-by}
 use Rattle.words.specs.declared.LinkAnswer.{LinkAnswer}

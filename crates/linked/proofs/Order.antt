@@ -12,6 +12,7 @@ use lib.ListN.{length}
 use Rattle.kinds.specs.Limits.{cellLimit, tokenLimit}
 use Rattle.plan.specs.Pieces.{placed}
 use Rattle.plan.specs.Plan.{cells, close-brace, end, open-brace, print, token}
+use Rattle.plan.specs.Reading.{plan-of}
 use Rattle.plan.specs.Services.{standard}
 use Rattle.plan.specs.Token.{allowed, annotation}
 use Rattle.plan.proofs.Acceptable.{acceptable-plan}
@@ -20,7 +21,6 @@ use Rattle.plan.proofs.Slots.{print-accepted, standard-roomy}
 use Rattle.plan.proofs.Tests.{and-true}
 use Rattle.plan.proofs.Tokens.{allowed-parts}
 use Rattle.words.specs.Answers.{LinkWritten, link-text, within, write-linked}
-use Rattle.plan.specs.Reading.{plan-of}
 use Rattle.words.specs.Linking.{Word, in-place, link, stands-for, stock-token}
 use Rattle.words.specs.Stock.{is-name}
 use Rattle.words.specs.declared.LinkAnswer.{LinkAnswer}

@@ -6,10 +6,10 @@ use mathlib.Core.Bool.{true, false}
 use mathlib.Core.List.{List, [], _∷_}
 use lib.ListN.{length}
 use Rattle.kinds.specs.Limits.{tokenLimit}
+use Rattle.plan.specs.Reading.{plan-of}
 use Rattle.plan.specs.Services.{acceptable, standard}
 use Rattle.plan.specs.Token.{allowed}
 use Rattle.stored.specs.Counted.{CUT, FRONT, number}
-use Rattle.plan.specs.Reading.{plan-of}
 use Rattle.words.specs.Linking.{Word, holds, stock-token}
 use Rattle.words.specs.Stock.{word, wordLimit}
 

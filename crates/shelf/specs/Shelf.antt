@@ -10,11 +10,11 @@ use Rattle.kinds.specs.declared.Token.{Token}
 use Rattle.kinds.specs.Limits.{textLimit, tokenLimit}
 use Rattle.plan.specs.Plan.{Plan}
 use Rattle.plan.specs.Pieces.{Piece, OP, TOKEN, BEGIN, END, Shows, pieces}
+use Rattle.plan.specs.Reading.{plan-of}
 use Rattle.pieces.specs.Written.{Is, TokenAt}
 use Rattle.pieces.specs.declared.Piece.{Piece as CodePiece}
 use Rattle.stored.specs.Counted.{AtFront, CUT, FRONT}
 use Rattle.stored.specs.Same.{same}
-use Rattle.plan.specs.Reading.{plan-of}
 use Rattle.words.specs.Linking.{Word, link, stands-for, stock-token}
 use Rattle.words.specs.Stock.{word}
 use Rattle.shelf.specs.declared.Named.{Named}

@@ -10,13 +10,13 @@ use lib.ListN.{length}
 use Rattle.kinds.specs.Limits.{tokenLimit}
 use Rattle.plan.specs.Pieces.{Piece, OP, TOKEN, BEGIN, END, pieces}
 use Rattle.plan.specs.Plan.{Plan, end, operator, token, block}
+use Rattle.plan.specs.Reading.{plan-of}
 use Rattle.plan.proofs.Tests.{never}
 use Rattle.pieces.specs.Written.{Is}
 use Rattle.pieces.specs.declared.Piece.{Piece as CodePiece}
 use Rattle.items.specs.Walk.{Passed, ShowsAhead}
 use Rattle.stored.specs.Same.{same}
 use Rattle.stored.proofs.Same.{same-false, same-true}
-use Rattle.plan.specs.Reading.{plan-of}
 use Rattle.words.specs.Linking.{holds}
 use Rattle.shelf.specs.Shelf.{PieceStands, Readable, Shelved, seek, seek-piece}
 use Rattle.shelf.specs.declared.Named.{Named}
