@@ -72,7 +72,7 @@ enum turnip_number {
 
    A text is acceptable when nothing but 18 could refuse it: that is a text of at most 1,048,576 bytes that reads as a plan of at
    most 4,096 cells. An output of no bytes asks just this: it gives 18 and the bytes needed, or 3 where the plan is empty, for an
-   acceptable text, and another refusal for every other text. */
+   acceptable text, and another refusal for every other text. As ever, out is not NULL then: point it at any byte. */
 void turnip_read(const uint8_t *text, size_t text_length, uint8_t *out, size_t out_length, uint32_t answer[5]);
 
 /* RUN: rewrites the plan of a text at most quota times, in the work memory, and writes the printed text of what it then is to

@@ -4,11 +4,11 @@
 
    A case is one text, for which READ is called with an output of no bytes and with one about as long as the printed text, and
    then RUN, and compared: the five numbers, every byte of the outputs and a few behind them, and every number of the work
-   memory, which is to be 0. What READ gives with no bytes is also held to what an acceptable text is. One thing more is asked
-   of the library alone: what READ writes holds no annotation, and RUN answers to it as to the text. The first difference is
-   told in full and ends the program with status 1. At last a plan nested to the limit is run on a small stack. Status 0: there
-   were no differences, and of 100,000 cases or more each call has given every answer that it can give, and texts with
-   annotations were accepted and refused. */
+   memory, which is to be 0. READ is called with room for every plan too, and what it answers there and with no bytes is held to
+   what an acceptable text is. One thing more is asked of the library alone: what READ writes holds no annotation, and RUN
+   answers to it as to the text. The first difference is told in full and ends the program with status 1. At last a plan nested
+   to the limit is run on a small stack. Status 0: there were no differences, and of 100,000 cases or more each call has given
+   every answer that it can give, and texts with annotations were accepted and refused. */
 #include "generator.h"
 #include "small_stack.h"
 #include "turnip.h"

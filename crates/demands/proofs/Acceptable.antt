@@ -3,12 +3,11 @@
 use Prim.Native.Nat.{ℕ, _≤_}
 use mathlib.Core.Path.{_≡_, refl, ap, sym, _∙_}
 use mathlib.Core.Logic.{_↔_, _≢_}
-use mathlib.Core.Bool.{true}
+use mathlib.Core.Bool.{true, false}
 use mathlib.Core.List.{List, []}
 use native.Mathlib.Omega.{arith}
-use lib.ListN.{drop, length}
-use lib.Seq.{take-append-seam}
-use Rattle.kinds.specs.Limits.{cellLimit, tokenLimit}
+use lib.ListN.{length}
+use Rattle.kinds.specs.Limits.{cellLimit}
 use Rattle.plan.specs.declared.Answer.{Answer}
 use Rattle.plan.specs.declared.Answer.the-variants.{Read}
 use Rattle.plan.specs.declared.Numbers.{Numbers}
@@ -17,23 +16,29 @@ use Rattle.plan.specs.declared.Refusal.the-variants.{OutShort}
 use Rattle.plan.specs.Plan.{bare, block, cells, end, operator, print, relabel, token}
 use Rattle.plan.specs.Reading.{OUTSIDE, fit, read, read-from, without-marks}
 use Rattle.plan.specs.Services.{accept, acceptable, numbers, refusal-number, standard}
-use Rattle.plan.proofs.Acceptable.{acceptable-plan, accepted-acceptable}
-use Rattle.plan.proofs.Plans.{print-relabel}
-use Rattle.plan.proofs.ReadBack.{read-accepted}
-use Rattle.plan.proofs.Slots.{accepted-text}
+use Rattle.plan.specs.Refusals.{Refuses}
+use Rattle.plan.proofs.Acceptable.{acceptable-plan, accepted-acceptable, refused-unacceptable, unacceptable-refused}
+use Rattle.plan.proofs.Answers.{refuses-iff}
 use Rattle.services.specs.Calls.{ReadsOut}
 use Rattle.demands.specs.Words.{Bare, IsRefusal, OUTSHORT, Reads, Unrefused, refusal, saved}
 use Rattle.demands.proofs.Answered.{every-read-answered}
-use Rattle.demands.proofs.Cases.{ReadCase, bad-text, is-read, out-short, read-case}
-use Rattle.demands.proofs.Meanings.{reads-not-refused, reads-one}
+use Rattle.demands.proofs.Cases.{ReadCase, bad-text, is-read, out-short, read-case, read-saved, text-read}
+use Rattle.demands.proofs.Meanings.{reads-not-refused, reads-one, reads-printed}
 use Rattle.demands.proofs.Numbers.{number-not-outshort, refusal-over}
-use Rattle.demands.proofs.PassedOn.{read-refuses}
+use Rattle.demands.proofs.PassedOn.{refused-by-its-text}
 
 -- the equivalent, in the words of the demands; `acceptable-exactly-when` of the definitions' laws spells out the limits
 pub acceptable-reads : (text : List ℕ) → (acceptable standard text ≡ true) ↔ ((p : Bare) × Reads cellLimit text p)
 acceptable-reads text = (
   λ e. let a = acceptable-plan standard text e in (bare (a .plan), record { placed = a .plan; accepted = a .accepted; same = refl }),
   λ (p, reads). accepted-acceptable standard text (reads .accepted),
+)
+
+-- and one that is not is refused by a row of the table
+pub unacceptable-exactly-when : (text : List ℕ) → (acceptable standard text ≡ false) ↔ ((x : Refusal) × Refuses standard cellLimit text x)
+unacceptable-exactly-when text = (
+  λ e. let (x, refused) = unacceptable-refused standard text e in (x, refuses-iff standard cellLimit text x .0 refused),
+  λ (x, row). refused-unacceptable standard text (refuses-iff standard cellLimit text x .1 row),
 )
 
 -- "nothing but OUTSHORT could refuse it": no call of READ is refused otherwise, whatever its output
@@ -97,8 +102,8 @@ module _ {text : List ℕ} {p : Bare} (reads : Reads cellLimit text p) where
 pub refused-whatever-the-output : {text out out₂ : List ℕ} {r s : Answer} {out′ out₂′ : List ℕ} → ReadsOut text out r out′ → ReadsOut text out₂ s out₂′
     → (x : Refusal) → refusal-number x ≢ OUTSHORT → (numbers r ≡ refusal x) ↔ (numbers s ≡ refusal x)
 refused-whatever-the-output call call₂ x other = (
-  λ told. read-refuses call₂ x other .0 (read-refuses call x other .1 told),
-  λ told. read-refuses call x other .0 (read-refuses call₂ x other .1 told),
+  λ told. refused-by-its-text call₂ x other .0 (refused-by-its-text call x other .1 told),
+  λ told. refused-by-its-text call x other .0 (refused-by-its-text call₂ x other .1 told),
 )
 
 -- A version that refuses all texts: the empty text is never refused, nor is any acceptable text with room for it.
@@ -110,17 +115,7 @@ empty-text-read call =
 
 -- A version that prints the text as read: what is saved is the text without its marks, so a text that has any is never printed as read.
 pub saved-without-marks : {text out : List ℕ} {r : Answer} {out′ : List ℕ} → ReadsOut text out r out′ → Unrefused r → saved r out′ ≡ without-marks OUTSIDE text
-saved-without-marks {text} {out} call = go (read-case call)
-  where
-    printed : {p : Bare} → Reads cellLimit text p → print p ≡ without-marks OUTSIDE text
-    printed reads =
-        let known = read-accepted tokenLimit cellLimit text (accepted-text standard cellLimit text (reads .accepted) .reads) in
-        ap print (sym (reads .same)) ∙ print-relabel (λ l. tt) (reads .placed) ∙ known .printed
-
-    go : {r : Answer} {out′ : List ℕ} → ReadCase text out r out′ → Unrefused r → saved r out′ ≡ without-marks OUTSIDE text
-    go (bad-text {x} g) u = absurd (omega (arith, refusal-over x))
-    go (out-short {p} g short) u = absurd (omega (arith, refusal-over (OutShort (length (print p)))))
-    go (is-read {p} g fits) u = take-append-seam (print p) (drop (length (print p)) out) ∙ printed g
+saved-without-marks call unrefused = let x = text-read call unrefused in read-saved x ∙ reads-printed (x .reads)
 
 pub marks-never-printed : {text out : List ℕ} {r : Answer} {out′ : List ℕ} → ReadsOut text out r out′ → Unrefused r
     → without-marks OUTSIDE text ≢ text → saved r out′ ≢ text

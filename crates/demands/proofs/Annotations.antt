@@ -4,14 +4,9 @@
 use Prim.Native.Nat.{ℕ}
 use mathlib.Core.Path.{_≡_, ap, sym, subst, _∙_}
 use mathlib.Core.List.{List}
-use native.Mathlib.Omega.{arith}
-use lib.ListN.{drop, length}
-use lib.Seq.{take-append-seam}
 use Rattle.kinds.specs.Limits.{cellLimit}
 use Rattle.plan.specs.declared.Answer.{Answer}
-use Rattle.plan.specs.declared.Refusal.the-variants.{OutShort}
 use Rattle.plan.specs.Pieces.{placed}
-use Rattle.plan.specs.Plan.{print}
 use Rattle.plan.specs.Reading.{HoldsAnnotation, OUTSIDE, without-marks}
 use Rattle.plan.specs.Services.{Outcome, Written, read-out, run, runs, standard, write}
 use Rattle.plan.proofs.Annotations.{accept-without-marks, reads-without-marks, runs-without-marks}
@@ -19,19 +14,13 @@ use Rattle.plan.proofs.ReadBack.{bare-placed}
 use Rattle.plan.proofs.Slots.{standard-roomy}
 use Rattle.services.specs.Calls.{ReadsOut, Runs}
 use Rattle.demands.specs.Words.{Bare, Reads, Unrefused, lent, saved}
-use Rattle.demands.proofs.Cases.{ReadCase, bad-text, ended-saved, is-read, out-short, read-case, run-ended}
+use Rattle.demands.proofs.Cases.{ended-saved, read-saved, run-ended, text-read}
 use Rattle.demands.proofs.Meanings.{ends-sound, reads-one, reads-sound, sound-unannotated}
-use Rattle.demands.proofs.Numbers.{refusal-over}
 
 -- no saved text holds an annotation
 pub read-unannotated : {text out : List ℕ} {r : Answer} {out′ : List ℕ} → ReadsOut text out r out′ → Unrefused r → HoldsAnnotation (saved r out′) → ⊥
-read-unannotated {text} {out} call = go (read-case call)
-  where
-    go : {r : Answer} {out′ : List ℕ} → ReadCase text out r out′ → Unrefused r → HoldsAnnotation (saved r out′) → ⊥
-    go (bad-text {x} g) h = absurd (omega (arith, refusal-over x))
-    go (out-short {p} g short) h = absurd (omega (arith, refusal-over (OutShort (length (print p)))))
-    go (is-read {p} g fits) h =
-        subst (λ t. HoldsAnnotation t → ⊥) (sym (take-append-seam (print p) (drop (length (print p)) out))) (sound-unannotated (reads-sound g))
+read-unannotated call unrefused =
+    let x = text-read call unrefused in subst (λ t. HoldsAnnotation t → ⊥) (sym (read-saved x)) (sound-unannotated (reads-sound (x .reads)))
 
 pub run-unannotated : {text : List ℕ} {quota : ℕ} {memory out : List ℕ} {r : Answer} {memory′ out′ : List ℕ}
     → Runs text quota memory out r memory′ out′ → Unrefused r → HoldsAnnotation (saved r out′) → ⊥

@@ -2,7 +2,7 @@
 -- The statements are about an answer's five numbers and what the call left, for all inputs, and stand in the order of the sentences.
 use Prim.Native.Nat.{ℕ, _≤_, _<_}
 use mathlib.Core.Path.{_≡_, refl, ap, sym, subst, _∙_}
-use mathlib.Core.Logic.{_↔_, _⊎_, inl, inr}
+use mathlib.Core.Logic.{_↔_, _≢_, _⊎_, inl, inr}
 use mathlib.Core.List.{List}
 use native.Mathlib.Omega.{arith}
 use lib.ListN.{length, length-replicate, getD, getD-replicate}
@@ -11,11 +11,13 @@ use Rattle.plan.specs.declared.Answer.{Answer}
 use Rattle.plan.specs.declared.Answer.the-variants.{Refused}
 use Rattle.plan.specs.declared.Numbers.{Numbers}
 use Rattle.plan.specs.declared.Refusal.{Refusal}
-use Rattle.plan.specs.declared.Refusal.the-variants.{OutShort}
+use Rattle.plan.specs.declared.Refusal.the-variants.{BadArena, OutShort}
 use Rattle.plan.specs.Plan.{print}
+use Rattle.plan.specs.Refusals.{bad-arena, bad-text as bad-row, fault, overfull, too-long, unclosed}
 use Rattle.plan.specs.Services.{cleared, numbers, read-out, run, standard}
 use Rattle.plan.proofs.Answers.{refuses-iff}
 use Rattle.plan.proofs.Refusals.{refused-injective}
+use Rattle.plan.proofs.Tests.{never}
 use Rattle.services.specs.Calls.{ReadsOut, Runs}
 use Rattle.demands.specs.Table.{ReadRefuses, RunRefuses, row-18, rows-11-to-17}
 use Rattle.demands.specs.Words.{Bare, FULL, IsRefusal, READ, lent, refusal}
@@ -73,6 +75,18 @@ read-refused {text} {out} {r} call x = (λ h. ap numbers (to (read-case call) h)
         let same : OutShort (length (print p)) ≡ x = cc in
         subst (ReadRefuses text out) same (row-18 h short)
     from (is-read h fits) e = absurd (let z : _≡_ {A = ℕ} 0 1 = cc in omega arith)
+
+-- of the table's rows 12 is RUN's alone
+pub read-never-bad-arena : {text out : List ℕ} {r : Answer} {out′ : List ℕ} → ReadsOut text out r out′ → numbers r ≢ refusal BadArena
+read-never-bad-arena {text} {out} call e = go (read-refused call BadArena .1 e) refl
+  where
+    go : {x : Refusal} → ReadRefuses text out x → x ≡ BadArena → ⊥
+    go (rows-11-to-17 (too-long long)) e = never cc
+    go (rows-11-to-17 (bad-arena short over)) e = omega arith
+    go (rows-11-to-17 (bad-row short few (fault before rest b split ok wrong))) e = never cc
+    go (rows-11-to-17 (bad-row short few (unclosed ok))) e = never cc
+    go (rows-11-to-17 (bad-row short few (overfull before rest b split ok begins whole))) e = never cc
+    go (row-18 reads short) e = never cc
 
 pub run-refused : {text : List ℕ} {quota : ℕ} {memory out : List ℕ} {r : Answer} {memory′ out′ : List ℕ}
     → Runs text quota memory out r memory′ out′ → (x : Refusal) → RunRefuses (lent memory) quota text out x ↔ (numbers r ≡ refusal x)

@@ -136,6 +136,24 @@ pub record EndedRun (n quota : ℕ) (text out : List ℕ) (r : Answer) (out′ :
   pub left : out′ ≡ print result ++ drop (length (print result)) out
   pub fits : length (print result) ≤ length out
 
+-- an unrefused READ, by the definition: what it read, what it told and what it left
+pub record TextRead (text out : List ℕ) (r : Answer) (out′ : List ℕ) : Type 0 where
+  pub plan : Bare
+  pub reads : Reads cellLimit text plan
+  pub told : r ≡ Read (cells plan) (length (print plan))
+  pub left : out′ ≡ print plan ++ drop (length (print plan)) out
+
+pub text-read : {text out : List ℕ} {r : Answer} {out′ : List ℕ} → ReadsOut text out r out′ → Unrefused r → TextRead text out r out′
+text-read {text} {out} call h = go (read-case call) h
+  where
+    go : {r : Answer} {out′ : List ℕ} → ReadCase text out r out′ → Unrefused r → TextRead text out r out′
+    go (bad-text {x} g) h = absurd (omega (arith, refusal-over x))
+    go (out-short {p} g short) h = absurd (omega (arith, refusal-over (OutShort (length (print p)))))
+    go (is-read {p} g fits) h = record { plan = p; reads = g; told = refl; left = refl }
+
+pub read-saved : {text out : List ℕ} {r : Answer} {out′ : List ℕ} (x : TextRead text out r out′) → saved r out′ ≡ print (x .plan)
+read-saved {out = out} x = rw (x .told, x .left) (take-append-seam (print (x .plan)) (drop (length (print (x .plan))) out))
+
 module _ {text : List ℕ} {quota : ℕ} {memory out : List ℕ} {r : Answer} {memory′ out′ : List ℕ}
     (call : Runs text quota memory out r memory′ out′) where
   pub run-ended : Unrefused r → EndedRun (lent memory) quota text out r out′

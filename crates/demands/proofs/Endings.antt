@@ -6,13 +6,11 @@ use mathlib.Core.Logic.{_↔_}
 use mathlib.Core.List.{List, _++_}
 use native.Mathlib.Omega.{arith}
 use lib.ListN.{length, drop}
-use lib.Seq.{take-append-seam}
 use Rattle.kinds.specs.Limits.{cellLimit}
 use Rattle.plan.specs.declared.Answer.{Answer}
 use Rattle.plan.specs.declared.Answer.the-variants.{Ran, Read, Refused}
 use Rattle.plan.specs.declared.Ending.{Ending}
 use Rattle.plan.specs.declared.Ending.the-variants.{Done, Quota, Full}
-use Rattle.plan.specs.declared.Refusal.the-variants.{OutShort}
 use Rattle.plan.specs.Plan.{cells, print}
 use Rattle.plan.specs.Running.{Leads}
 use Rattle.plan.specs.Services.{ending-number, numbers}
@@ -33,7 +31,7 @@ use Rattle.demands.specs.Words.{
   lent,
   saved,
 }
-use Rattle.demands.proofs.Cases.{EndedRun, ReadCase, bad-text, ended-plan, ended-rewritten, ended-saved, is-read, out-short, read-case, run-ended}
+use Rattle.demands.proofs.Cases.{EndedRun, ReadCase, bad-text, ended-plan, ended-rewritten, ended-saved, is-read, out-short, read-case, read-saved, run-ended, text-read}
 use Rattle.demands.proofs.Meanings.{ends-sound, ends-way, reads-one, reads-sound, sound-back}
 use Rattle.demands.proofs.Numbers.{refusal-over, same-ending}
 
@@ -115,15 +113,15 @@ module _ {text : List ℕ} {quota : ℕ} {memory out : List ℕ} {r : Answer} {m
 pub read-reads-prints : {text out : List ℕ} {r : Answer} {out′ : List ℕ} → ReadsOut text out r out′ → Unrefused r
     → (p : Bare) × Reads cellLimit text p × (numbers r .cells ≡ cells p) × (numbers r .length ≡ length (print p))
     × (out′ ≡ print p ++ drop (length (print p)) out) × Reads cellLimit (saved r out′) p
-read-reads-prints {text} {out} call unrefused = go (read-case call) unrefused
-  where
-    go : {r : Answer} {out′ : List ℕ} → ReadCase text out r out′ → Unrefused r
-        → (p : Bare) × Reads cellLimit text p × (numbers r .cells ≡ cells p) × (numbers r .length ≡ length (print p))
-        × (out′ ≡ print p ++ drop (length (print p)) out) × Reads cellLimit (saved r out′) p
-    go (bad-text {x} h) u = absurd (omega (arith, refusal-over x))
-    go (out-short {p} h short) u = absurd (omega (arith, refusal-over (OutShort (length (print p)))))
-    go (is-read {p} h fits) u =
-        (p, h, refl, refl, refl, rw (take-append-seam (print p) (drop (length (print p)) out)) (sound-back (reads-sound h)))
+read-reads-prints {text} {out} {r} {out′} call unrefused =
+    let x = text-read call unrefused in (
+      x .plan,
+      x .reads,
+      ap (λ (a : Answer). numbers a .cells) (x .told),
+      ap (λ (a : Answer). numbers a .length) (x .told),
+      x .left,
+      subst (λ t. Reads cellLimit t (x .plan)) (sym (read-saved x)) (sound-back (reads-sound (x .reads))),
+    )
 
 -- Steps are 0 for READ, whatever it answers,
 pub read-steps : {text out : List ℕ} {r : Answer} {out′ : List ℕ} → ReadsOut text out r out′ → numbers r .steps ≡ 0

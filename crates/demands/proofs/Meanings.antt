@@ -13,7 +13,7 @@ use Rattle.plan.specs.declared.Ending.{Ending}
 use Rattle.plan.specs.declared.Refusal.{Refusal}
 use Rattle.plan.specs.Plan.{Plan, bare, cells, print}
 use Rattle.plan.specs.Token.{Allowed}
-use Rattle.plan.specs.Reading.{HoldsAnnotation, PLAN, REFUSED, fit, read}
+use Rattle.plan.specs.Reading.{HoldsAnnotation, OUTSIDE, PLAN, REFUSED, fit, read, without-marks}
 use Rattle.plan.specs.Rewriting.{next}
 use Rattle.plan.specs.Running.{Leads, Ran, RAN, run-plan}
 use Rattle.plan.specs.Services.{accept, standard}
@@ -83,6 +83,12 @@ reads-sound {n} {text} g =
     let ok = accepted-text standard n text (g .accepted) in
     let good = read-accepted tokenLimit n text (ok .reads) in
     record { of = g .placed; same = g .same; fine = good .fine; fits = good .fits; within = ok .lent }
+
+-- what was read is printed as the text without its marks
+pub reads-printed : {n : ℕ} {text : List ℕ} {p : Bare} → Reads n text p → print p ≡ without-marks OUTSIDE text
+reads-printed {n} {text} g =
+    let good = read-accepted tokenLimit n text (accepted-text standard n text (g .accepted) .reads) in
+    ap print (sym (g .same)) ∙ print-relabel (λ l. tt {0}) (g .placed) ∙ good .printed
 
 module _ {n : ℕ} {q : Bare} (sound : Sound n q) where
   same-cells : cells (sound .of) ≡ cells q

@@ -32,9 +32,9 @@ same-fault few (bad-arena short many) e = never cc
 same-fault {m = m} few (bad-text short few′ row) e = bad-text short few (same-row m row e)
 
 -- READ tells what is wrong with a text as the table says, whatever the output
-pub read-refuses : {text out : List ℕ} {r : Answer} {out′ : List ℕ} → ReadsOut text out r out′ → (x : Refusal) → refusal-number x ≢ OUTSHORT
+pub refused-by-its-text : {text out : List ℕ} {r : Answer} {out′ : List ℕ} → ReadsOut text out r out′ → (x : Refusal) → refusal-number x ≢ OUTSHORT
     → Refuses standard cellLimit text x ↔ (numbers r ≡ refusal x)
-read-refuses {text} {out} call x other = (
+refused-by-its-text {text} {out} call x other = (
   λ row. read-refused call x .0 (rows-11-to-17 row),
   λ told. go (read-refused call x .1 told) other,
 )
@@ -43,15 +43,15 @@ read-refuses {text} {out} call x other = (
     go (rows-11-to-17 row) other = row
     go (row-18 reads short) other = absurd (other refl)
 
-pub read-fault : {text out : List ℕ} {r : Answer} {out′ : List ℕ} → ReadsOut text out r out′ → (f : TextFault)
+pub text-fault-told : {text out : List ℕ} {r : Answer} {out′ : List ℕ} → ReadsOut text out r out′ → (f : TextFault)
     → Refuses standard cellLimit text (Text f) ↔ (numbers r ≡ refusal (Text f))
-read-fault call f = read-refuses call (Text f) (fault-number-is f .no-outshort)
+text-fault-told call f = refused-by-its-text call (Text f) (fault-number-is f .no-outshort)
 
 pub run-passes-on : {text : List ℕ} {quota : ℕ} {memory out out₂ : List ℕ} {c r : Answer} {memory′ out′ out₂′ : List ℕ} → ReadsOut text out₂ c out₂′
     → Runs text quota memory out r memory′ out′ → lent memory ≤ cellLimit → (f : TextFault) → (numbers c ≡ refusal (Text f)) ↔ (numbers r ≡ refusal (Text f))
 run-passes-on {text} {quota} {memory} {out} read run few f = (
-  λ told. run-refused run (Text f) .0 (rows-11-to-17 (same-fault few (read-fault read f .1 told) refl)),
-  λ told. read-fault read f .0 (go (run-refused run (Text f) .1 told) refl),
+  λ told. run-refused run (Text f) .0 (rows-11-to-17 (same-fault few (text-fault-told read f .1 told) refl)),
+  λ told. text-fault-told read f .0 (go (run-refused run (Text f) .1 told) refl),
 )
   where
     go : {x : Refusal} → RunRefuses (lent memory) quota text out x → x ≡ Text f → Refuses standard cellLimit text (Text f)

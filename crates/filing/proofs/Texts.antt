@@ -14,7 +14,17 @@ use Rattle.stored.proofs.Same.{same-equal}
 use Rattle.filing.specs.Rules.{is-finished, is-printed}
 
 module _ (lim : Limits) (text : List ℕ) where
-  -- a text that is accepted is printed when it is the printed text of what it reads as, and finished when that plan is
+  -- a text that is not acceptable is neither printed nor finished
+  module _ (h : acceptable lim text ≡ false) where
+    pub unacceptable-not-printed : is-printed lim text ≡ false
+    unfolding is-printed
+    unacceptable-not-printed = ap (_&& same text (print (plan-of (lim .token) text))) h
+
+    pub unacceptable-not-finished : is-finished lim text ≡ false
+    unfolding is-finished
+    unacceptable-not-finished = ap (_&& finished (plan-of (lim .token) text)) h
+
+  -- one that is accepted is printed when it is the printed text of what it reads as, and finished when that plan is
   module _ {p : Plan ℕ} (h : accept lim (lim .cells) text ≡ PLAN p) where
     both : (f : Plan ℕ → Bool) → (acceptable lim text && f (plan-of (lim .token) text)) ≡ f p
     both f = ap (_&& f (plan-of (lim .token) text)) (accepted-acceptable lim text h) ∙ ap f (accepted-plan lim text h)
@@ -26,16 +36,6 @@ module _ (lim : Limits) (text : List ℕ) where
     pub finished-by-plan : is-finished lim text ≡ finished p
     unfolding is-finished
     finished-by-plan = both finished
-
-  -- and one that is not acceptable is neither
-  module _ (h : acceptable lim text ≡ false) where
-    pub unprinted : is-printed lim text ≡ false
-    unfolding is-printed
-    unprinted = ap (_&& same text (print (plan-of (lim .token) text))) h
-
-    pub unfinished : is-finished lim text ≡ false
-    unfolding is-finished
-    unfinished = ap (_&& finished (plan-of (lim .token) text)) h
 
   -- what a printed text has, and a finished one
   pub printed-text : is-printed lim text ≡ true → (a : AcceptableText lim text) × (text ≡ print (a .plan))

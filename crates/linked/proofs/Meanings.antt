@@ -17,10 +17,11 @@ use Rattle.plan.specs.Reading.{PLAN, REFUSED, fit, place, read}
 use Rattle.plan.specs.Refusals.{Faultless}
 use Rattle.plan.specs.Services.{accept, standard}
 use Rattle.plan.specs.Token.{Allowed}
+use Rattle.plan.proofs.Acceptable.{accepted-parts, parts-accepted}
 use Rattle.plan.proofs.Plans.{cells-relabel, print-relabel, relabel-then}
 use Rattle.plan.proofs.ReadBack.{Accepted, read-accepted}
 use Rattle.plan.proofs.Refusals.{read-faultless}
-use Rattle.plan.proofs.Slots.{accepted-text, accepts, print-accepted, standard-roomy}
+use Rattle.plan.proofs.Slots.{print-accepted, standard-roomy}
 use Rattle.stored.specs.Same.{same}
 use Rattle.words.specs.Linking.{Word, holds, in-place, link, stands-for}
 use Rattle.words.proofs.Linked.{allowed-link, link-unlisted}
@@ -43,7 +44,7 @@ module _ {text : List ℕ} {p : Plan ℕ} (reads : HasPlan text p) where
 
   -- so many cells lent, within their limit, accept it; and 4,096 do not, where it has more
   pub reads-accepted : (n : ℕ) → cells p ≤ n → n ≤ cellLimit → accept standard n text ≡ PLAN p
-  reads-accepted n room lent = accepts standard n text (record { short = reads .short; lent = lent; reads = with-room n room })
+  reads-accepted n room lent = parts-accepted standard n text lent (reads .short) (reads .reads) room
 
   pub reads-over : cellLimit < cells p → accept standard cellLimit text ≡ REFUSED (Overfull (place (getD (labels p) cellLimit 0)))
   unfolding accept read fit
@@ -52,8 +53,7 @@ module _ {text : List ℕ} {p : Plan ℕ} (reads : HasPlan text p) where
 
 -- an accepted text reads as the plan
 pub accepted-reads : (n : ℕ) {text : List ℕ} {p : Plan ℕ} → accept standard n text ≡ PLAN p → HasPlan text p
-accepted-reads n {text} e =
-    let t = accepted-text standard n text e in record { short = t .short; reads = read-faultless tokenLimit n text (t .reads) .2 }
+accepted-reads n {text} e = let (short, is, few) = accepted-parts standard n text e in record { short = short; reads = is }
 
 -- a linked plan has names only for tokens
 pub linked-allowed : {list text : List ℕ} {ws : List Word} {p : Plan ℕ} → HasWords list ws → HasPlan text p → Allowed tokenLimit (linked-by ws p)

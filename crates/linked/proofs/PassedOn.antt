@@ -21,7 +21,7 @@ use Rattle.words.specs.declared.LinkAnswer.{LinkAnswer}
 use Rattle.words.specs.declared.LinkRefusal.the-variants.{Text}
 use Rattle.linking.specs.Calls.{Links}
 use Rattle.demands.specs.Words as demanded
-use Rattle.demands.proofs.PassedOn.{read-fault, same-row}
+use Rattle.demands.proofs.PassedOn.{text-fault-told, same-row}
 use Rattle.linked.specs.Lists.{HasWords}
 use Rattle.linked.specs.Table.{Faulty, row-11, rows-13-to-16}
 use Rattle.linked.specs.Words.{refusal}
@@ -40,6 +40,6 @@ pub link-passes-on : {list text out out₂ : List ℕ} {c : Answer} {r : LinkAns
     → Links list text out r out′
     → HasWords list ws → (f : TextFault) → (numbers c ≡ demanded.refusal (BadText f)) ↔ (link-numbers r ≡ refusal (Text f))
 link-passes-on read links has f = (
-  λ told. fault-exactly-when links has f .0 (refuses-faulty (read-fault read f .1 told) refl),
-  λ told. read-fault read f .0 (faulty-refuses (fault-exactly-when links has f .1 told)),
+  λ told. fault-exactly-when links has f .0 (refuses-faulty (text-fault-told read f .1 told) refl),
+  λ told. text-fault-told read f .0 (faulty-refuses (fault-exactly-when links has f .1 told)),
 )

@@ -16,7 +16,6 @@ use Rattle.plan.specs.Plan.{Plan, bare, cells, print}
 use Rattle.plan.specs.Reading.{PLAN}
 use Rattle.plan.specs.Services.{accept, acceptable, numbers, standard}
 use Rattle.plan.specs.Slots.{total}
-use Rattle.plan.proofs.Acceptable.{accepted-acceptable}
 use Rattle.plan.proofs.Pieces.{pieces-relabel}
 use Rattle.plan.proofs.Plans.{cells-relabel, print-relabel}
 use Rattle.plan.proofs.ReadBack.{bare-placed}
@@ -29,7 +28,7 @@ use Rattle.words.proofs.Listing.{listed-there, no-listed-token}
 use Rattle.services.specs.Calls.{ReadsOut, Runs}
 use Rattle.demands.specs.Slots.{Slots}
 use Rattle.demands.specs.Words.{Bare, DONE, OUTSHORT, Reads, Unrefused, lent, saved as run-saved}
-use Rattle.demands.proofs.Acceptable.{room-lent}
+use Rattle.demands.proofs.Acceptable.{acceptable-reads, room-lent}
 use Rattle.demands.proofs.Cases.{read-unrefused}
 use Rattle.demands.proofs.Meanings.{reads-one}
 use Rattle.demands.proofs.MoreNeverChanges.{more-gives-the-same, slots-end-as-the-run}
@@ -60,19 +59,22 @@ module _ {list text out : List ℕ} {r : LinkAnswer} {out′ : List ℕ} (call :
   saved-reads n room lent =
       record { placed = placed 0 (linked-by ws p); accepted = accepted-again n room lent; same = bare-placed 0 (linked-by ws p) }
 
+  with-the-most : Reads cellLimit (saved r out′) (bare (linked-by ws p))
+  with-the-most = saved-reads cellLimit (omega (arith, its-cells, its .few)) (omega arith)
+
   pub saved-acceptable : acceptable standard (saved r out′) ≡ true
-  saved-acceptable = accepted-acceptable standard (saved r out′) (accepted-again cellLimit (omega (arith, its-cells, its .few)) (omega arith))
+  saved-acceptable = acceptable-reads (saved r out′) .1 (_, with-the-most)
 
   -- and READ with an output that is long enough tells the cells and the length that LINK told
   pub saved-read : {o : List ℕ} {s : Answer} {o′ : List ℕ} → ReadsOut (saved r out′) o s o′ → link-numbers r .length ≤ length o
       → s ≡ Read (link-numbers r .cells) (link-numbers r .length)
   saved-read again room =
       let sized : length (print (bare (linked-by ws p))) ≡ link-numbers r .length = ap length (print-relabel (λ l. tt {0}) (linked-by ws p)) ∙ sym its-length in
-      room-lent (saved-reads cellLimit (omega (arith, its-cells, its .few)) (omega arith)) again (omega arith)
+      room-lent with-the-most again (omega arith)
       ∙ ap₂ Read (cells-relabel (λ l. tt {0}) (linked-by ws p) ∙ sym its-cells) sized
 
   reads-linked : {q : Bare} → Reads cellLimit (saved r out′) q → bare (linked-by ws p) ≡ q
-  reads-linked again = reads-one (saved-reads cellLimit (omega (arith, its-cells, its .few)) (omega arith)) again
+  reads-linked again = reads-one with-the-most again
 
   -- "A linked plan holds no token of a listed word at all, at any depth;"
   pub holds-no-listed-token : {q : Bare} → Reads cellLimit (saved r out′) q

@@ -35,6 +35,20 @@ refused-not-outshort lim n text {needed} e = go (refuses-iff lim n text (OutShor
     go (bad-arena short over) h = never cc
     go (bad-text short few row) h = of-row row h
 
+module _ (lim : Limits) (n : ℕ) (text : List ℕ) {p : Plan ℕ} where
+  -- a text that is accepted where n cells are lent is within its limit and reads as its plan, which has n cells at most;
+  pub accepted-parts : accept lim n text ≡ PLAN p
+      → (length text ≤ lim .text) × (read-from (lim .token) 0 0 outermost end text ≡ PLAN p) × (cells p ≤ n)
+  accepted-parts h =
+      let t = accepted-text lim n text h in
+      (t .short, read-faultless (lim .token) n text (t .reads) .2, read-accepted (lim .token) n text (t .reads) .fits)
+
+  -- and such a text is accepted
+  pub parts-accepted : n ≤ lim .cells → length text ≤ lim .text → read-from (lim .token) 0 0 outermost end text ≡ PLAN p → cells p ≤ n
+      → accept lim n text ≡ PLAN p
+  unfolding read fit
+  parts-accepted lent short is few = accepts lim n text (record { short = short; lent = lent; reads = ap (fit n) is ∙ rw (le-leb (cells p) n few) })
+
 -- what is known of an acceptable text and of its plan
 pub record AcceptableText (lim : Limits) (text : List ℕ) : Type 0 where
   pub plan : Plan ℕ
@@ -63,12 +77,9 @@ module _ (lim : Limits) (text : List ℕ) where
       go (PLAN p) h = false-is-not-true (sym e ∙ accepted-acceptable h)
       go (REFUSED q) h = (q, h)
 
-  from-start : {p : Plan ℕ} → accept lim (lim .cells) text ≡ PLAN p → read-from (lim .token) 0 0 outermost end text ≡ PLAN p
-  from-start h = read-faultless (lim .token) (lim .cells) text (accepted-text lim (lim .cells) text h .reads) .2
-
   pub accepted-plan : {p : Plan ℕ} → accept lim (lim .cells) text ≡ PLAN p → plan-of (lim .token) text ≡ p
   unfolding plan-of plan-in
-  accepted-plan h = ap plan-in (from-start h)
+  accepted-plan h = ap plan-in (accepted-parts lim (lim .cells) text h .1)
 
   pub acceptable-plan : acceptable lim text ≡ true → AcceptableText lim text
   acceptable-plan e = go (accept lim (lim .cells) text) refl
@@ -76,15 +87,15 @@ module _ (lim : Limits) (text : List ℕ) where
       go : (x : Reading) → accept lim (lim .cells) text ≡ x → AcceptableText lim text
       go (REFUSED r) h = false-is-not-true (sym (refused-unacceptable h) ∙ e)
       go (PLAN p) h =
-          let t = accepted-text lim (lim .cells) text h in
-          let known = read-accepted (lim .token) (lim .cells) text (t .reads) in
+          let (short, is, few) = accepted-parts lim (lim .cells) text h in
+          let known = read-accepted (lim .token) (lim .cells) text (accepted-text lim (lim .cells) text h .reads) in
           record {
             plan = p;
             accepted = h;
-            reads = from-start h;
+            reads = is;
             plan-is = accepted-plan h;
-            short = t .short;
-            fits = known .fits;
+            short = short;
+            fits = few;
             fine = known .fine;
             shows = known .shows;
             printed = known .printed;
@@ -93,10 +104,7 @@ module _ (lim : Limits) (text : List ℕ) where
   -- "a text of at most 1,048,576 bytes that reads as a plan of at most 4,096 cells"
   pub acceptable-exactly-when : (acceptable lim text ≡ true)
       ↔ ((p : Plan ℕ) × (length text ≤ lim .text) × (read-from (lim .token) 0 0 outermost end text ≡ PLAN p) × (cells p ≤ lim .cells))
-  unfolding read fit
   acceptable-exactly-when = (
     λ e. let a = acceptable-plan e in (a .plan, a .short, a .reads, a .fits),
-    λ (p, short, is, few).
-        accepted-acceptable {p = p}
-        (accepts lim (lim .cells) text (record { short = short; lent = omega arith; reads = ap (fit (lim .cells)) is ∙ rw (le-leb (cells p) (lim .cells) few) })),
+    λ (p, short, is, few). accepted-acceptable {p = p} (parts-accepted lim (lim .cells) text (omega arith) short is few),
   )

@@ -13,33 +13,34 @@ use Rattle.plan.specs.Pieces.{Shows, pieces}
 use Rattle.plan.specs.Rewriting.{finished}
 use Rattle.plan.specs.Services.{acceptable, reads, standard}
 use Rattle.plan.specs.Reading.{OUTSIDE}
-use Rattle.plan.proofs.Acceptable.{acceptable-plan}
+use Rattle.plan.proofs.Acceptable.{AcceptableText, acceptable-plan}
 use Rattle.plan.proofs.Faultless.{without-marks-same}
 use Rattle.filing.specs.Rules.{is-finished, is-printed}
-use Rattle.filing.proofs.Texts.{finished-by-plan, printed-by-plan, unfinished, unprinted}
+use Rattle.filing.proofs.Texts.{finished-by-plan, printed-by-plan, unacceptable-not-finished, unacceptable-not-printed}
 use Rattle.stored.proofs.Same.{same-false, same-true}
 use Rattle.finished.specs.Pieces.{ShowsPlan}
-use Rattle.asking.specs.Asking.{asked}
-use Rattle.asking.specs.declared.Asked.{Asked}
-use Rattle.asking.specs.declared.Asked.the-variants.{Acceptable, Unacceptable}
+use Rattle.asking.specs.Acceptance.{acceptance-of}
+use Rattle.asking.specs.declared.Acceptance.{Acceptance}
+use Rattle.asking.specs.declared.Acceptance.the-variants.{Acceptable, Unacceptable}
 use Rattle.asking.proofs.Asking.{told-acceptable, told-unacceptable}
 
 module _ (text : List ℕ) where
-  module _ {r : Asked} (told : r ≡ asked (reads standard text)) where
+  module _ {r : Acceptance} (told : r ≡ acceptance-of (reads standard text)) where
     module _ {l : ℕ} (is : r ≡ Acceptable l) where
+      known : AcceptableText standard text
+      known = acceptable-plan standard text (told-acceptable text told is .0)
+
+      long : length (print (known .plan)) ≡ l
+      long = ap (λ p. length (print p)) (sym (known .plan-is)) ∙ told-acceptable text told is .1
+
       printed-whole : l ≡ length text → true ≡ is-printed standard text
       printed-whole e =
-          let (good, long) = told-acceptable text told is in
-          let a = acceptable-plan standard text good in
-          let all = without-marks-same OUTSIDE text (ap length (sym (a .printed)) ∙ ap (λ p. length (print p)) (sym (a .plan-is)) ∙ long ∙ e) in
-          sym (printed-by-plan standard text (a .accepted) ∙ same-true text (print (a .plan)) (sym all ∙ sym (a .printed)))
+          let all = without-marks-same OUTSIDE text (ap length (sym (known .printed)) ∙ long ∙ e) in
+          sym (printed-by-plan standard text (known .accepted) ∙ same-true text (print (known .plan)) (sym all ∙ sym (known .printed)))
 
       printed-not : l ≢ length text → false ≡ is-printed standard text
       printed-not h =
-          let (good, long) = told-acceptable text told is in
-          let a = acceptable-plan standard text good in
-          sym (printed-by-plan standard text (a .accepted)
-          ∙ same-false text (print (a .plan)) (λ e. h (sym long ∙ ap (λ p. length (print p)) (a .plan-is) ∙ ap length (sym e))))
+          sym (printed-by-plan standard text (known .accepted) ∙ same-false text (print (known .plan)) (λ e. h (sym long ∙ ap length (sym e))))
 
       pub printed-told : eqb l (length text) ≡ is-printed standard text
       printed-told = go (eqb l (length text)) refl
@@ -49,7 +50,7 @@ module _ (text : List ℕ) where
           go false h = printed-not (eqb-false l (length text) h)
 
     pub printed-refused : r ≡ Unacceptable → false ≡ is-printed standard text
-    printed-refused e = sym (unprinted standard text (told-unacceptable text told e))
+    printed-refused e = sym (unacceptable-not-printed standard text (told-unacceptable text told e))
 
   module _ {t : Bool} (told : t ≡ acceptable standard text) where
     pub finished-ready : t ≡ true → ShowsPlan text
@@ -61,4 +62,4 @@ module _ (text : List ℕ) where
         let a = acceptable-plan standard text (sym told ∙ e) in h (a .plan) (a .shows) ∙ sym (finished-by-plan standard text (a .accepted))
 
     pub finished-refused : t ≡ false → false ≡ is-finished standard text
-    finished-refused e = sym (unfinished standard text (sym told ∙ e))
+    finished-refused e = sym (unacceptable-not-finished standard text (sym told ∙ e))

@@ -10,8 +10,8 @@ ghost use Rattle.filing.specs.Rules.{digits, is-finished, is-job, is-printed, n
 ghost use Rattle.filing.specs.EntriesStand.{EntriesStand};
 ghost use Rattle.entries.specs.Entries.{EntryWithin, SpanWithin, part, says-told};
 ghost use Rattle.standing.specs.Looking.{StandingWithin, standing-told};
-use asking::Asked;
-use asking::ask;
+use asking::Acceptance;
+use asking::acceptance_of;
 use asking::is_acceptable;
 use entries::EntryAt;
 use entries::Span;
@@ -52,9 +52,9 @@ pub fn is_job(job: &[u8]) -> bool
 pub fn is_printed(text: &[u8]) -> bool
     ensures { λ r. ⌜ r ≡ is-printed standard (now (text .entry)) ⌝ }
 {
-    match ask(text) {
-        Asked::Acceptable { length } => length as usize == text.len(),
-        Asked::Unacceptable => false,
+    match acceptance_of(text) {
+        Acceptance::Acceptable { length } => length as usize == text.len(),
+        Acceptance::Unacceptable => false,
     }
 }
 

@@ -1,7 +1,7 @@
 -- `heard`, by the refusal.
 use mathlib.Core.Path.{ap, sym}
 use borrow.Author.Needs.{needs}
-use Rattle.asking.specs.Asking.{heard}
+use Rattle.asking.specs.Acceptance.{heard}
 use Rattle.asking.proofs.heard.Statement.{statement}
 use Rattle.asking.proofs.heard.Tie as tie
 

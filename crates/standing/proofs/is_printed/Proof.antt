@@ -4,8 +4,8 @@ use Rattle.standing.proofs.Texts.{printed-refused, printed-told}
 use Rattle.standing.proofs.is_printed.Statement.{statement}
 use Rattle.standing.proofs.is_printed.Tie as tie
 
-ask-requires : tie.Need-ask-requires
-ask-requires c κs = search needs
+acceptance-of-requires : tie.Need-acceptance-of-requires
+acceptance-of-requires c κs = search needs
 
 enum-known-length : tie.Need-enum-known-length
 enum-known-length c = search needs
@@ -17,10 +17,10 @@ enum-told : tie.Need-enum-told
 enum-told c = search needs
 
 returns : tie.Need-returns
-returns c = let k = c .before in printed-told _ (k .before .before .ask .ensures) (k .length .given .1)
+returns c = let k = c .before in printed-told _ (k .before .before .acceptance-of .ensures) (k .length .given .1)
 
 returns-2 : tie.Need-returns-2
-returns-2 c = printed-refused _ (c .before .before .ask .ensures) (c .enum-told .given .1)
+returns-2 c = printed-refused _ (c .before .before .acceptance-of .ensures) (c .enum-told .given .1)
 
 pub is-printed-spec : {M : Type 1} → statement M
-is-printed-spec = tie.close (tie.spec ask-requires enum-known-length cast-result enum-told returns returns-2)
+is-printed-spec = tie.close (tie.spec acceptance-of-requires enum-known-length cast-result enum-told returns returns-2)

@@ -1,9 +1,9 @@
--- `ask`: what the answer tells is what was asked for.
+-- `acceptance_of`: what the answer tells is what was asked for.
 use borrow.Author.Needs.{needs}
 use mathlib.Core.Path.{_∙_}
 use Rattle.asking.proofs.Asking.{told-as, told-by}
-use Rattle.asking.proofs.ask.Statement.{statement}
-use Rattle.asking.proofs.ask.Tie as tie
+use Rattle.asking.proofs.acceptance_of.Statement.{statement}
+use Rattle.asking.proofs.acceptance_of.Tie as tie
 
 slice-aggregate-read : tie.Need-slice-aggregate-read
 slice-aggregate-read c = search needs
@@ -35,8 +35,8 @@ returns-3 : tie.Need-returns-3
 unfolding told-by
 returns-3 c = let k = c .before in told-as _ (k .before .before .before .read .ensures) (k .ending .given .1)
 
-pub ask-spec : {M : Type 1} → statement M
-ask-spec =
+pub acceptance-of-spec : {M : Type 1} → statement M
+acceptance-of-spec =
     tie.close
     (tie.spec
     slice-aggregate-read
