@@ -7,7 +7,7 @@ use mathlib.Core.Option.{none, some}
 use mathlib.Core.List.{List, reverse}
 use native.Mathlib.Omega.{arith}
 use lib.ListN.{length}
-use Rattle.plan.specs.Services.{standard}
+use Rattle.kinds.specs.Limits.{standard}
 use Rattle.filing.specs.Answers.{READS, after-done, closing-fault, edition-1, filing-fault, judged, longest, unfinished}
 use Rattle.filing.specs.Format.{Entry}
 use Rattle.filing.specs.Rules.{JobStanding, UNFILED, FILED-AT, DONE-AT, is-finished, is-job, is-new, is-printed, standing}

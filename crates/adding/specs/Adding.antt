@@ -5,7 +5,7 @@ use mathlib.Core.Bool.{Bool, false, cond}
 use mathlib.Core.Option.{Option, none, some}
 use mathlib.Core.List.{List, [], _∷_}
 use lib.Dec.{eqb}
-use Rattle.plan.specs.Services.{standard}
+use Rattle.kinds.specs.Limits.{standard}
 use Rattle.filing.specs.Answers.{READS, closing-fault, edition-1, filing-fault, judged}
 use Rattle.filing.specs.Format.{Entry}
 use Rattle.filing.specs.Rules.{is-new, standing}

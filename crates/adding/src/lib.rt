@@ -4,7 +4,7 @@ ghost use mathlib.Core.Bool.{false};
 ghost use mathlib.Core.List.{List, [], _∷_, reverse};
 ghost use Prim.Native.Nat.{_+_, _≤_, _<_, _^_};
 ghost use lib.ListN.{length};
-ghost use Rattle.plan.specs.Services.{standard};
+ghost use Rattle.kinds.specs.Limits.{standard};
 ghost use Rattle.pieces.specs.Written.{put-at};
 ghost use Rattle.filing.specs.Answers.{READS, edition-1, closing-fault, filing-fault, judged, new-bytes};
 ghost use Rattle.filing.specs.Format.{Entry};

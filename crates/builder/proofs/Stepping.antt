@@ -6,7 +6,7 @@ use lib.ListN.{set}
 use Rattle.kinds.specs.declared.Cell.{Cell}
 use Rattle.memory.specs.Memory.{start, close, link, whole, token-kind, block-kind}
 use Rattle.kinds.specs.declared.Token.{Token as TextToken}
-use Rattle.plan.specs.Numbered.{operator-number}
+use Rattle.pieces.specs.Numbered.{operator-number}
 use Rattle.plan.specs.declared.Operator.{Operator as PlanOperator}
 use Rattle.pieces.specs.declared.Piece.{Piece}
 use Rattle.pieces.specs.declared.Piece.the-variants.{Operator, Token, Open, Close}

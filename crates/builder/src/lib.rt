@@ -4,27 +4,10 @@ ghost use mathlib.Core.Path.{_≡_};
 ghost use Prim.Native.Nat.{_+_, _*_, _<_};
 ghost use lib.ListN.{set};
 ghost use Rattle.kinds.specs.Limits.{cellNumbers};
-ghost use Rattle.plan.specs.Numbered.{operator-number};
+ghost use Rattle.pieces.specs.Numbered.{operator-number};
 ghost use Rattle.memory.specs.Memory.{close};
 ghost use Rattle.memory.specs.Numbered.{kind-number};
-ghost use Rattle.memory.specs.Model.{
-  Lent,
-  Aside,
-  Buildable,
-  Stepped,
-  Fresh,
-  Begun,
-  model,
-  with-cell,
-  with-item,
-  with-token,
-  with-block,
-  with-close,
-  Finished,
-  PieceReady,
-  Apart,
-  with-piece,
-};
+ghost use Rattle.memory.specs.Model.{Lent, Aside, Buildable, Stepped, Fresh, Begun, model, with-cell, with-item, with-token, with-block, with-close, Finished, PieceReady, Apart, with-piece};
 use kinds::Cell;
 use kinds::Token;
 use memory::Build;

@@ -5,18 +5,17 @@
 ghost use Prim.Native.Nat.{_≤_};
 ghost use lib.ListN.{length};
 ghost use Rattle.kinds.specs.Limits.{cellLimit};
-ghost use Rattle.plan.specs.Services.{numbers};
+use answers::of_run;
 use kinds::Cell;
 use lending::all_zero;
 use lending::fill_memory;
 use lending::fill_output;
 use lending::untouched;
-use plan::Answer;
+use numbers::Numbers;
 use telling::mind;
-use telling::printed_length;
 use telling::say;
 use telling::say_count;
-use telling::tell_numbers;
+use telling::tell_five;
 use telling::tell_printed;
 
 const MEMORY: usize = Cell::NUMBERS * Cell::LIMIT;
@@ -56,23 +55,23 @@ fn tell_rest(memory: &[u32], output: &[u8], from: usize) {
 }
 
 // RUN, on a memory and an output that hold other values before.
-fn run_filled(text: &[u8], quota: u32, memory: &mut [u32], output: &mut [u8]) -> Answer
-    ensures { λ r. ⌜ numbers r .length ≤ length (now (output .exit)) ⌝ }
+fn run_filled(text: &[u8], quota: u32, memory: &mut [u32], output: &mut [u8]) -> Numbers
+    ensures { λ r. ⌜ r .length ≤ length (now (output .exit)) ⌝ }
 {
     fill_memory(memory);
     fill_output(output);
-    services::run(text, quota, memory, output)
+    of_run(run::run(text, quota, memory, output))
 }
 
 // Runs a text in all of the memory, and tells what came of it; the length of the printed text.
 fn tell_run(text: &[u8], quota: u32, memory: &mut [u32], output: &mut [u8]) -> usize
     ensures { λ r. ⌜ r ≤ length (now (output .exit)) ⌝ }
 {
-    let answer = run_filled(text, quota, memory, output);
-    let length = printed_length(answer);
-    mind(tell_numbers(answer));
+    let numbers = run_filled(text, quota, memory, output);
+    let length = numbers.length as usize;
+    mind(tell_five(numbers));
     bar();
-    mind(tell_printed(answer, output));
+    mind(tell_printed(numbers, output));
     bar();
     tell_rest(memory, output, length);
     length
@@ -198,9 +197,9 @@ fn tell_bytes(count: usize) {
 
 // A plan nested to the limit: its text and what is printed are told by their lengths.
 fn run_deep(text: &[u8], memory: &mut [u32], output: &mut [u8]) {
-    let answer = run_filled(text, 100, memory, output);
-    let length = printed_length(answer);
-    mind(tell_numbers(answer));
+    let numbers = run_filled(text, 100, memory, output);
+    let length = numbers.length as usize;
+    mind(tell_five(numbers));
     bar();
     tell_bytes(length);
     tell_rest(memory, output, length);

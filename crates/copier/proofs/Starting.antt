@@ -10,18 +10,7 @@ use Rattle.plan.specs.Plan.{Plan, cells, labels}
 use Rattle.plan.proofs.Plans.{length-labels}
 use Rattle.plan.specs.Pieces.{pieces, seen}
 use Rattle.memory.specs.Held.{BlockIn}
-use Rattle.memory.specs.Memory.{
-  start,
-  close,
-  link,
-  block-kind,
-  ports,
-  Linked,
-  Absent,
-  Distinct,
-  Holds,
-  Shared,
-}
+use Rattle.memory.specs.Memory.{start, close, link, block-kind, ports, Linked, Absent, Distinct, Holds, Shared}
 use Rattle.memory.specs.Model.{Model}
 use Rattle.memory.proofs.Along.{leads-linked}
 use Rattle.memory.proofs.Building.{begin-in}

@@ -7,25 +7,31 @@ use mathlib.Core.Bool.{true, false}
 use mathlib.Core.List.{List, [], _∷_, _++_}
 use native.Mathlib.Omega.{arith}
 use lib.ListN.{length, replicate}
-use Rattle.kinds.specs.Limits.{cellNumbers}
-use Rattle.plan.specs.declared.Answer.{Answer}
-use Rattle.plan.specs.declared.Answer.the-variants.{Ran, Read, Refused}
-use Rattle.plan.specs.declared.Ending.{Ending}
-use Rattle.plan.specs.declared.Ending.the-variants.{Done, Quota, Full}
+use Rattle.kinds.specs.Limits.{cellNumbers, standard}
+use Rattle.plan.specs.declared.ReadAnswer.the-variants.{Read, Refused as RefusedText}
+use Rattle.plan.specs.declared.ReadRefusal.the-variants.{NotRead, OutShort as PastOutput}
+use Rattle.rules.specs.declared.Ending.{Ending}
+use Rattle.rules.specs.declared.Ending.the-variants.{Done, Quota, Full}
 use Rattle.plan.specs.declared.Operator.the-variants.{D}
-use Rattle.plan.specs.declared.Refusal.the-variants.{OutShort, Text}
+use Rattle.plan.specs.declared.Unread.the-variants.{Text}
 use Rattle.plan.specs.declared.TextFault.the-variants.{Unclosed}
 use Rattle.plan.specs.Plan.{Plan, WithoutC, end, operator, token, block, _then_, bare, cells, labels, letter, print, relabel}
 use Rattle.plan.specs.Token.{annotation, follows, scalar, value, well-formed, all-permitted, allowed, before-brace, character, if-allowed, may-hold, permits, token-text}
-use Rattle.plan.specs.Reading.{HoldsAnnotation, OUTSIDE, class, enter, fit, go-on, leave, mark, move, past-token, place, read, read-from, without-marks}
+use Rattle.plan.specs.Reading.{HoldsAnnotation, OUTSIDE, accept, class, enter, fit, go-on, leave, mark, move, past-token, place, read, read-from, read-text, without-marks}
 use Rattle.plan.specs.Options.{_else_, under}
-use Rattle.plan.specs.Rewriting.{after-two, first-block, inner, next, outer}
-use Rattle.plan.specs.Running.{ask, one-more, run-plan, turn}
-use Rattle.plan.specs.Services.{GIVES, accept, acceptable, as-read, as-run, cleared, is-given, numbers, read-out, reads, run, run-read, runs, standard, write}
-use Rattle.plan.specs.Slots.{after, next-slot, plus-steps, slots, total}
-use Rattle.plan.specs.Worked.{bytes}
-use Rattle.services.specs.Calls.{ReadsOut, Runs}
-use Rattle.turnip.specs.Stored.{Answers}
+use Rattle.rules.specs.Rewriting.{after-two, first-block, inner, next, outer}
+use Rattle.rules.specs.Running.{ask, one-more, run-plan, turn}
+use Rattle.plan.specs.Outcomes.{GIVES, cleared, is-given, write}
+use Rattle.plan.specs.Read.{acceptable, as-read, reads}
+use Rattle.answers.specs.declared.RunAnswer.{RunAnswer}
+use Rattle.answers.specs.declared.RunAnswer.the-variants.{Ran, Refused}
+use Rattle.answers.specs.declared.RunRefusal.the-variants.{NotRead as RunNotRead, OutShort}
+use Rattle.answers.specs.Run.{as-run, run-numbers, run-read, run-refusal-numbers, runs}
+use Rattle.answers.specs.Slots.{after, next-slot, slots, total}
+use Rattle.numbers.specs.Rows.{bytes}
+use Rattle.read.specs.Calls.{ReadsOut}
+use Rattle.run.specs.Calls.{Runs}
+use Rattle.turnip.specs.Stored.{Answers, five}
 use Rattle.demands.specs.Demanded.{AsDemanded}
 use Rattle.demands.specs.Slots.{Slot, Slots, first, only}
 use Rattle.demands.specs.Table.{ReadRefuses, RunRefuses}
@@ -64,24 +70,24 @@ pub calls : Runs p6 2 (memory 7) out (Ran Done 2 4 10) (zeroed 7) (ended ++ repl
     × Runs p6 1 (memory 7) out (Ran Quota 1 6 13) (zeroed 7) (p7 ++ replicate 3 7)
     × Runs p7 1 (memory 7) out (Ran Done 1 4 10) (zeroed 7) (ended ++ replicate 6 7)
     × Runs (bytes "[{x}]c") 9 (memory 3) out (Ran Full 0 3 6) (zeroed 3) (bytes "[{x}]c" ++ replicate 10 7)
-    × Runs (bytes "[") 9 (memory 7) out (Refused (Text (Unclosed (place 1)))) (zeroed 7) out
+    × Runs (bytes "[") 9 (memory 7) out (Refused (RunNotRead (Text (Unclosed (place 1))))) (zeroed 7) out
     × Runs p6 2 (memory 7) [] (Refused (OutShort 10)) (zeroed 7) []
-    × (slots standard 7 1 (1 ∷ []) p6 ≡ GIVES (Ran Done 2 4 10) ended)
-    × ReadsOut (bytes "[") out (Refused (Text (Unclosed (place 1)))) out × ReadsOut p6 [] (Refused (OutShort 14)) []
+    × (slots standard 7 1 (1 ∷ []) p6 ≡ GIVES (record { ending = Done; steps = 2 }) 4 ended)
+    × ReadsOut (bytes "[") out (RefusedText (NotRead (Text (Unclosed (place 1))))) out × ReadsOut p6 [] (RefusedText (PastOutput 14)) []
     × ReadsOut (bytes "{&j}") [] (Read 0 0) [] × ReadsOut spaced out (Read 2 5) (bytes "[{x}]" ++ replicate 11 7)
-unfolding slots next-slot after plus-steps cleared run runs run-read read-out reads as-read as-run accept write read read-from go-on move past-token mark annotation fit class token-text if-allowed before-brace allowed all-permitted permits may-hold character value follows scalar well-formed cells labels print letter _then_ run-plan turn ask one-more next outer inner first-block after-two under _else_ bytes
+unfolding slots next-slot after cleared runs run-read reads as-read as-run accept read-text write read read-from go-on move past-token mark annotation fit class token-text if-allowed before-brace allowed all-permitted permits may-hold character value follows scalar well-formed cells labels print letter _then_ run-plan turn ask one-more next outer inner first-block after-two under _else_ bytes
 calls = (
-  record { answer = refl; output = refl; zeroed = refl },
-  record { answer = refl; output = refl; zeroed = refl },
-  record { answer = refl; output = refl; zeroed = refl },
-  record { answer = refl; output = refl; zeroed = refl },
-  record { answer = refl; output = refl; zeroed = refl },
-  record { answer = refl; output = refl; zeroed = refl },
+  record { wrote = record { answer = refl; output = refl }; zeroed = refl },
+  record { wrote = record { answer = refl; output = refl }; zeroed = refl },
+  record { wrote = record { answer = refl; output = refl }; zeroed = refl },
+  record { wrote = record { answer = refl; output = refl }; zeroed = refl },
+  record { wrote = record { answer = refl; output = refl }; zeroed = refl },
+  record { wrote = record { answer = refl; output = refl }; zeroed = refl },
   refl,
-  record { answer = refl; output = refl },
-  record { answer = refl; output = refl },
-  record { answer = refl; output = refl },
-  record { answer = refl; output = refl },
+  record { wrote = record { answer = refl; output = refl } },
+  record { wrote = record { answer = refl; output = refl } },
+  record { wrote = record { answer = refl; output = refl } },
+  record { wrote = record { answer = refl; output = refl } },
 )
 
 -- `HoldsAnnotation`, of a text that runs, and that text without its marks
@@ -91,24 +97,24 @@ annotated = bytes "[{x}][{y}]{&jit}a"
 pub an-annotated-run : HoldsAnnotation annotated × Runs annotated 1 (memory 7) out (Ran Done 1 3 8) (zeroed 7) (bytes "{y}[{x}]" ++ replicate 8 7)
     × (without-marks OUTSIDE annotated ≡ bytes "[{x}][{y}]a")
 unfolding calls without-marks enter leave
-an-annotated-run = ((bytes "[{x}][{y}]", bytes "jit}a", refl), record { answer = refl; output = refl; zeroed = refl }, refl)
+an-annotated-run = ((bytes "[{x}][{y}]", bytes "jit}a", refl), record { wrote = record { answer = refl; output = refl }; zeroed = refl }, refl)
 
 -- `Unrefused`, `Rewritten` (with `Reads` and `Leads` in it), and why a run ends: no rule applies, the next result fits, or it does not
-pub a-done-run : Unrefused (Ran Done 2 4 10) × ((q : Bare) × Rewritten 7 p6 2 q × NoRuleApplies q)
+pub a-done-run : Unrefused (run-numbers (Ran Done 2 4 10)) × ((q : Bare) × Rewritten 7 p6 2 q × NoRuleApplies q)
 a-done-run =
-    let u : Unrefused (Ran Done 2 4 10) = omega arith in
+    let u : Unrefused (run-numbers (Ran Done 2 4 10)) = omega arith in
     let made = reads-rewrites-prints (calls .0) u in
     (u, (made .0, made .1, done-exactly-when (calls .0) u (made .1) .0 refl))
 
-pub a-quota-run : Unrefused (Ran Quota 1 6 13) × ((q : Bare) × Rewritten 7 p6 1 q × NextFits 7 q)
+pub a-quota-run : Unrefused (run-numbers (Ran Quota 1 6 13)) × ((q : Bare) × Rewritten 7 p6 1 q × NextFits 7 q)
 a-quota-run =
-    let u : Unrefused (Ran Quota 1 6 13) = omega arith in
+    let u : Unrefused (run-numbers (Ran Quota 1 6 13)) = omega arith in
     let made = reads-rewrites-prints (calls .1) u in
     (u, (made .0, made .1, quota-exactly-when (calls .1) u (made .1) .0 refl))
 
-pub a-full-run : Unrefused (Ran Full 0 3 6) × ((q : Bare) × Rewritten 3 (bytes "[{x}]c") 0 q × NextHasMoreThan 3 q)
+pub a-full-run : Unrefused (run-numbers (Ran Full 0 3 6)) × ((q : Bare) × Rewritten 3 (bytes "[{x}]c") 0 q × NextHasMoreThan 3 q)
 a-full-run =
-    let u : Unrefused (Ran Full 0 3 6) = omega arith in
+    let u : Unrefused (run-numbers (Ran Full 0 3 6)) = omega arith in
     let made = reads-rewrites-prints (calls .3) u in
     (u, (made .0, made .1, full-exactly-when (calls .3) u (made .1) .0 refl))
 
@@ -121,14 +127,14 @@ unfolding bytes
 as-demanded = run-as-demanded (calls .0) (a-done-run .0)
 
 -- refusals, by both rows of `RunRefuses` and of `ReadRefuses`
-pub a-refusal : IsRefusal (Refused (OutShort 10)) × (Unrefused (Refused (OutShort 10)) → ⊥)
+pub a-refusal : IsRefusal run-refusal-numbers (run-numbers (Refused (OutShort 10))) × (Unrefused (run-numbers (Refused (OutShort 10))) → ⊥)
 a-refusal = ((OutShort 10, refl), λ u. omega arith)
 
-pub refused-runs : RunRefuses 7 9 (bytes "[") out (Text (Unclosed (place 1))) × RunRefuses 7 2 p6 [] (OutShort 10)
-refused-runs = (run-refused (calls .4) (Text (Unclosed (place 1))) .1 refl, run-refused (calls .5) (OutShort 10) .1 refl)
+pub refused-runs : RunRefuses 7 9 (bytes "[") out (RunNotRead (Text (Unclosed (place 1)))) × RunRefuses 7 2 p6 [] (OutShort 10)
+refused-runs = (run-refused (calls .4) (RunNotRead (Text (Unclosed (place 1)))) .1 refl, run-refused (calls .5) (OutShort 10) .1 refl)
 
-pub refused-readings : ReadRefuses (bytes "[") out (Text (Unclosed (place 1))) × ReadRefuses p6 [] (OutShort 14)
-refused-readings = (read-refused (calls .7) (Text (Unclosed (place 1))) .1 refl, read-refused (calls .8) (OutShort 14) .1 refl)
+pub refused-readings : ReadRefuses (bytes "[") out (NotRead (Text (Unclosed (place 1)))) × ReadRefuses p6 [] (PastOutput 14)
+refused-readings = (read-refused (calls .7) (NotRead (Text (Unclosed (place 1)))) .1 refl, read-refused (calls .8) (PastOutput 14) .1 refl)
 
 -- acceptable texts, and one that is not
 pub acceptable-and-not : (acceptable standard p6 ≡ true) × (acceptable standard spaced ≡ true) × (acceptable standard (bytes "[") ≡ false)
@@ -136,8 +142,8 @@ unfolding calls acceptable is-given
 acceptable-and-not = (refl, refl, refl)
 
 -- P6 in two slots of quota 1, which are its quota of 2
-slot : {text : List ℕ} {quota : ℕ} {r : Answer} {out′ : List ℕ} → Runs text quota (memory 7) out r (zeroed 7) out′
-    → numbers r .number ≢ OUTSHORT → Slot (length (memory 7)) text quota r (saved r out′)
+slot : {text : List ℕ} {quota : ℕ} {r : RunAnswer} {out′ : List ℕ} → Runs text quota (memory 7) out r (zeroed 7) out′
+    → run-numbers r .number ≢ OUTSHORT → Slot (length (memory 7)) text quota r (saved (run-numbers r) out′)
 slot call enough =
     record {
       memory = memory 7;
@@ -156,11 +162,11 @@ two-slots = (first (slot (calls .1) (λ e. absurd (omega arith))) (only (slot (c
 
 -- P5 is a plan without c
 pub a-plan-without-c : (p : Bare) × Reads 3 (bytes "[{x}]d") p × WithoutC p
-unfolding accept read read-from go-on move past-token mark annotation fit class token-text if-allowed before-brace allowed all-permitted permits may-hold character value follows scalar well-formed cells labels under _then_ bytes relabel
+unfolding accept read-text read-from go-on move past-token mark annotation fit class token-text if-allowed before-brace allowed all-permitted permits may-hold character value follows scalar well-formed cells labels under _then_ bytes relabel
 a-plan-without-c =
     let placed : Plan ℕ = block 0 (token 1 (bytes "x") end) (operator 5 D end) in
-    (bare placed, record { placed = placed; accepted = refl; same = refl }, (tt, (λ e. let z : _≡_ {A = ℕ} 0 1 = cc in omega arith, tt)))
+    (bare placed, record { within = omega arith; placed = placed; accepted = refl; same = refl }, (tt, (λ e. let z : _≡_ {A = ℕ} 0 1 = cc in omega arith, tt)))
 
 -- and five numbers stored over the C interface
-pub five-stored : Answers (λ r. Runs p6 2 (memory 7) out r (zeroed 7) (ended ++ replicate 6 7)) (0 ∷ 2 ∷ 4 ∷ 10 ∷ 0 ∷ [])
+pub five-stored : Answers (λ r. five (run-numbers r)) (λ r. Runs p6 2 (memory 7) out r (zeroed 7) (ended ++ replicate 6 7)) (0 ∷ 2 ∷ 4 ∷ 10 ∷ 0 ∷ [])
 five-stored = record { answer = Ran Done 2 4 10; did = calls .0; told = refl }

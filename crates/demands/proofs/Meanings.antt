@@ -8,29 +8,38 @@ use native.Mathlib.Nat.{le-trans}
 use native.Mathlib.Omega.{arith}
 use lib.ListN.{length}
 use borrow.Author.Tests.{le-leb}
-use Rattle.kinds.specs.Limits.{cellLimit, tokenLimit}
-use Rattle.plan.specs.declared.Ending.{Ending}
-use Rattle.plan.specs.declared.Refusal.{Refusal}
+use Rattle.kinds.specs.Limits.{cellLimit, standard, tokenLimit}
+use Rattle.rules.specs.declared.Ending.{Ending}
+use Rattle.plan.specs.declared.Unread.{Unread}
 use Rattle.plan.specs.Plan.{Plan, bare, cells, print}
 use Rattle.plan.specs.Token.{Allowed}
-use Rattle.plan.specs.Reading.{HoldsAnnotation, OUTSIDE, PLAN, REFUSED, fit, read, without-marks}
-use Rattle.plan.specs.Rewriting.{next}
-use Rattle.plan.specs.Running.{Leads, Ran, RAN, run-plan}
-use Rattle.plan.specs.Services.{accept, standard}
+use Rattle.plan.specs.Reading.{ACCEPTED, HoldsAnnotation, OUTSIDE, accept, fit, read, without-marks}
+use Rattle.plan.specs.Refusals.{Unreadable}
+use Rattle.rules.specs.Rewriting.{next}
+use Rattle.rules.specs.Running.{Leads, Ran, RAN, run-plan}
 use Rattle.plan.proofs.Annotations.{print-no-annotation}
 use Rattle.plan.proofs.Plans.{cells-relabel, print-relabel}
 use Rattle.plan.specs.Pieces.{placed}
 use Rattle.plan.proofs.ReadBack.{bare-placed, print-bound, read-accepted}
-use Rattle.plan.proofs.Refusals.{plan-injective, plan-is-no-refusal, read-faultless}
-use Rattle.plan.proofs.Runs.{Run, ask-go, go, ran-run, run-allowed, run-cells, run-leads, run-relabel, spent, stop}
-use Rattle.plan.proofs.Slots.{accepted-text, accepts, print-accepted, standard-roomy}
+use Rattle.plan.proofs.Refusals.{accepted-injective, accepted-is-not-unread, read-faultless, row-refused}
+use Rattle.rules.proofs.Runs.{Run, ask-go, go, ran-run, run-allowed, run-cells, run-leads, run-relabel, spent, stop}
+use Rattle.plan.proofs.Accepting.{accepted-text, accepts, print-accepted, standard-roomy, unread-iff}
+use Rattle.answers.specs.declared.RunRefusal.{RunRefusal}
+use Rattle.answers.specs.Run.{Refuses, bad-arena, bad-text, too-long}
 use Rattle.demands.specs.Words.{Bare, Ends, Reads, Rewritten}
 
 pub reads-one : {n : ℕ} {text : List ℕ} {p q : Bare} → Reads n text p → Reads n text q → p ≡ q
-reads-one g h = sym (g .same) ∙ ap bare (plan-injective (sym (g .accepted) ∙ h .accepted)) ∙ h .same
+reads-one g h = sym (g .same) ∙ ap bare (accepted-injective (sym (g .accepted) ∙ h .accepted)) ∙ h .same
 
-pub reads-not-refused : {A : Type 0} {n : ℕ} {text : List ℕ} {p : Bare} {x : Refusal} → Reads n text p → accept standard n text ≡ REFUSED x → A
-reads-not-refused g h = plan-is-no-refusal (sym (g .accepted) ∙ h)
+-- and such a text is refused by no row of the table, READ's or RUN's
+pub reads-not-unreadable : {A : Type 0} {n : ℕ} {text : List ℕ} {p : Bare} {u : Unread} → Reads n text p → Unreadable standard n text u → A
+reads-not-unreadable {n = n} {text} {u = u} g row = accepted-is-not-unread (sym (g .accepted) ∙ unread-iff standard n text u .1 row)
+
+pub reads-not-refused : {A : Type 0} {n : ℕ} {text : List ℕ} {p : Bare} {x : RunRefusal} → Reads n text p → Refuses standard n text x → A
+reads-not-refused {n = n} {text} g (too-long long) = absurd (omega (arith, accepted-text standard n text (g .accepted) .short))
+reads-not-refused g (bad-arena short over) = absurd (omega (arith, g .within))
+reads-not-refused {n = n} {text} g (bad-text short few row) =
+    accepted-is-not-unread (sym (accepted-text standard n text (g .accepted) .reads) ∙ row-refused row)
 
 -- more memory, within its limit, reads the same plan
 pub reads-with-more : {n : ℕ} {text : List ℕ} {p : Bare} (m : ℕ) → n ≤ m → m ≤ cellLimit → Reads n text p → Reads m text p
@@ -38,11 +47,12 @@ unfolding read fit
 reads-with-more {n} {text} m more within g =
     let ok = accepted-text standard n text (g .accepted) in
     let whole = read-faultless tokenLimit n text (ok .reads) in
-    let again : read tokenLimit m text ≡ PLAN (g .placed) =
+    let again : read tokenLimit m text ≡ ACCEPTED (g .placed) =
     ap (fit m) (whole .2) ∙ rw (le-leb (cells (g .placed)) m (le-trans (whole .1) more)) in
     record {
+      within = within;
       placed = g .placed;
-      accepted = accepts standard m text (record { short = ok .short; lent = within; reads = again });
+      accepted = accepts standard m text (record { short = ok .short; reads = again });
       same = g .same;
     }
 
@@ -82,7 +92,7 @@ pub reads-sound : {n : ℕ} {text : List ℕ} {p : Bare} → Reads n text p → 
 reads-sound {n} {text} g =
     let ok = accepted-text standard n text (g .accepted) in
     let good = read-accepted tokenLimit n text (ok .reads) in
-    record { of = g .placed; same = g .same; fine = good .fine; fits = good .fits; within = ok .lent }
+    record { of = g .placed; same = g .same; fine = good .fine; fits = good .fits; within = g .within }
 
 -- what was read is printed as the text without its marks
 pub reads-printed : {n : ℕ} {text : List ℕ} {p : Bare} → Reads n text p → print p ≡ without-marks OUTSIDE text
@@ -113,6 +123,7 @@ module _ {n : ℕ} {q : Bare} (sound : Sound n q) where
   pub sound-back : Reads n (print q) q
   sound-back =
       record {
+        within = sound .within;
         placed = placed 0 (sound .of);
         accepted =
             ap (accept standard n) (sym same-text)

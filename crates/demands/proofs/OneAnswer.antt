@@ -11,59 +11,58 @@ use native.Mathlib.Omega.{arith}
 use lib.ListN.{length, replicate}
 use lib.Dec.{leb}
 use borrow.Author.Tests.{leb-true, leb-false}
-use Rattle.plan.specs.declared.Answer.{Answer}
+use Rattle.kinds.specs.Limits.{standard}
+use Rattle.plan.specs.declared.ReadAnswer.{ReadAnswer}
+use Rattle.plan.specs.Outcomes.{Wrote, cleared}
 use Rattle.plan.specs.Plan.{cells, print}
-use Rattle.plan.specs.Rewriting.{next}
-use Rattle.plan.specs.Running.{Leads}
-use Rattle.plan.specs.Services.{cleared, numbers, run, standard}
-use Rattle.plan.proofs.Rewrites.{finished-iff}
-use Rattle.services.specs.Calls.{ReadsOut, Runs}
+use Rattle.plan.specs.Read.{read-family}
+use Rattle.plan.proofs.Outcomes.{wrote-once}
+use Rattle.rules.specs.Rewriting.{next}
+use Rattle.rules.specs.Running.{Leads}
+use Rattle.numbers.specs.Numbers.{read-numbers}
+use Rattle.answers.specs.declared.RunAnswer.{RunAnswer}
+use Rattle.answers.specs.Run.{quarter, run-family, run-numbers, runs}
+use Rattle.rules.proofs.Rewrites.{finished-iff}
+use Rattle.read.specs.Calls.{ReadsOut}
+use Rattle.run.specs.Calls.{Runs}
 use Rattle.turnip.specs.Stored.{Answers, five}
 use Rattle.demands.specs.Demanded.{AsDemanded}
 use Rattle.demands.specs.Words.{Bare, NextFits, NextHasMoreThan, NoRuleApplies, Rewritten, Unrefused, lent, saved}
-use Rattle.demands.proofs.Endings.{
-  done-exactly-when,
-  every-plan-had-room,
-  full-exactly-when,
-  quota-exactly-when,
-  reads-rewrites-prints,
-  steps-within-quota,
-}
+use Rattle.demands.proofs.Endings.{done-exactly-when, every-plan-had-room, full-exactly-when, quota-exactly-when, reads-rewrites-prints, steps-within-quota}
 use Rattle.demands.proofs.Meanings.{rewritten-one}
 
-pub read-one-answer : {text out : List ℕ} {r s : Answer} {left left′ : List ℕ} → ReadsOut text out r left → ReadsOut text out s left′
+pub read-one-answer : {text out : List ℕ} {r s : ReadAnswer} {left left′ : List ℕ} → ReadsOut text out r left → ReadsOut text out s left′
     → (r ≡ s) × (left ≡ left′)
-read-one-answer g h = (g .answer ∙ sym (h .answer), g .output ∙ sym (h .output))
+read-one-answer g h = wrote-once read-family (g .wrote) (h .wrote)
 
 -- "What it held before has no effect": two work memories of the same length, with any numbers in them.
-pub run-one-answer : {text : List ℕ} {quota : ℕ} {memory memory₂ out : List ℕ} {r s : Answer} {zeroed zeroed₂ left left₂ : List ℕ}
+pub run-one-answer : {text : List ℕ} {quota : ℕ} {memory memory₂ out : List ℕ} {r s : RunAnswer} {zeroed zeroed₂ left left₂ : List ℕ}
     → Runs text quota memory out r zeroed left → Runs text quota memory₂ out s zeroed₂ left₂ → length memory ≡ length memory₂
     → (r ≡ s) × (zeroed ≡ zeroed₂) × (left ≡ left₂)
 unfolding cleared
-run-one-answer {text} {quota} {out = out} g h same = (
-  g .answer ∙ ap (λ m. run standard text quota m out .answer) same ∙ sym (h .answer),
-  g .zeroed ∙ ap (λ m. replicate m 0) same ∙ sym (h .zeroed),
-  g .output ∙ ap (λ m. run standard text quota m out .output) same ∙ sym (h .output),
-)
+run-one-answer {text} {quota} {out = out} {r} {left = left} g h same =
+    let again = subst (λ m. Wrote run-family (runs standard (quarter m) quota text) out r left) same (g .wrote) in
+    let once = wrote-once run-family again (h .wrote) in
+    (once .0, g .zeroed ∙ ap (λ m. replicate m 0) same ∙ sym (h .zeroed), once .1)
 
 -- Over the C interface, where the answer is told by five numbers in the caller's array, as well.
-pub read-stored-once : {text out left left′ stored stored₂ : List ℕ} → Answers (λ r. ReadsOut text out r left) stored
-    → Answers (λ r. ReadsOut text out r left′) stored₂ → (stored ≡ stored₂) × (left ≡ left′)
+pub read-stored-once : {text out left left′ stored stored₂ : List ℕ} → Answers (λ r. five (read-numbers r)) (λ r. ReadsOut text out r left) stored
+    → Answers (λ r. five (read-numbers r)) (λ r. ReadsOut text out r left′) stored₂ → (stored ≡ stored₂) × (left ≡ left′)
 read-stored-once g h =
-    let same = read-one-answer (g .did) (h .did) in (g .told ∙ ap (λ r. five (numbers r)) (same .0) ∙ sym (h .told), same .1)
+    let same = read-one-answer (g .did) (h .did) in (g .told ∙ ap (λ r. five (read-numbers r)) (same .0) ∙ sym (h .told), same .1)
 
 pub run-stored-once : {text : List ℕ} {quota : ℕ} {memory memory₂ out zeroed zeroed₂ left left₂ stored stored₂ : List ℕ}
-    → Answers (λ r. Runs text quota memory out r zeroed left) stored → Answers (λ r. Runs text quota memory₂ out r zeroed₂ left₂) stored₂
+    → Answers (λ r. five (run-numbers r)) (λ r. Runs text quota memory out r zeroed left) stored → Answers (λ r. five (run-numbers r)) (λ r. Runs text quota memory₂ out r zeroed₂ left₂) stored₂
     → length memory ≡ length memory₂ → (stored ≡ stored₂) × (zeroed ≡ zeroed₂) × (left ≡ left₂)
 run-stored-once g h lengths =
     let same = run-one-answer (g .did) (h .did) lengths in
-    (g .told ∙ ap (λ r. five (numbers r)) (same .0) ∙ sym (h .told), same .1, same .2)
+    (g .told ∙ ap (λ r. five (run-numbers r)) (same .0) ∙ sym (h .told), same .1, same .2)
 
 -- The sentences of demand 2 leave one answer too: a version that says FULL always, prints the same text always, rewrites once and then
 -- only counts, or invents its steps meets them only where it answers as RUN does.
-pub run-as-demanded : {text : List ℕ} {quota : ℕ} {memory out : List ℕ} {r : Answer} {memory′ out′ : List ℕ}
-    → Runs text quota memory out r memory′ out′ → Unrefused r
-    → AsDemanded (lent memory) quota text (numbers r .number) (numbers r .steps) (saved r out′)
+pub run-as-demanded : {text : List ℕ} {quota : ℕ} {memory out : List ℕ} {r : RunAnswer} {memory′ out′ : List ℕ}
+    → Runs text quota memory out r memory′ out′ → Unrefused (run-numbers r)
+    → AsDemanded (lent memory) quota text (run-numbers r .number) (run-numbers r .steps) (saved (run-numbers r) out′)
 run-as-demanded call unrefused =
     let its = reads-rewrites-prints call unrefused in
     record {

@@ -4,19 +4,19 @@ use Prim.Native.Nat.{ℕ, _≤_}
 use mathlib.Core.Path.{_≡_, ap, sym, subst, _∙_}
 use mathlib.Core.Logic.{_≢_}
 use mathlib.Core.List.{List}
-use Rattle.plan.specs.declared.Answer.{Answer}
-use Rattle.plan.specs.declared.Ending.the-variants.{Full}
+use Rattle.answers.specs.declared.RunAnswer.{RunAnswer}
+use Rattle.rules.specs.declared.Ending.the-variants.{Full}
 use Rattle.plan.specs.Plan.{WithoutC, cells}
-use Rattle.plan.specs.Services.{ending-number, numbers}
-use Rattle.plan.proofs.Runs.{without-c-done, without-c-not-full}
-use Rattle.services.specs.Calls.{Runs}
+use Rattle.answers.specs.Run.{ending-number, run-numbers}
+use Rattle.rules.proofs.Runs.{without-c-done, without-c-not-full}
+use Rattle.run.specs.Calls.{Runs}
 use Rattle.demands.specs.Words.{Bare, DONE, FULL, Reads, Unrefused, lent}
 use Rattle.demands.proofs.Cases.{EndedRun, run-ended}
 use Rattle.demands.proofs.Meanings.{reads-one, reads-sound, sound-cells}
 use Rattle.demands.proofs.Numbers.{same-ending}
 
-module _ {text : List ℕ} {quota : ℕ} {memory out : List ℕ} {r : Answer} {memory′ out′ : List ℕ}
-    (call : Runs text quota memory out r memory′ out′) (unrefused : Unrefused r)
+module _ {text : List ℕ} {quota : ℕ} {memory out : List ℕ} {r : RunAnswer} {memory′ out′ : List ℕ}
+    (call : Runs text quota memory out r memory′ out′) (unrefused : Unrefused (run-numbers r))
     {p : Bare} (reads : Reads (lent memory) text p) (plain : WithoutC p) where
   run : EndedRun (lent memory) quota text out r out′
   run = run-ended call unrefused
@@ -24,18 +24,18 @@ module _ {text : List ℕ} {quota : ℕ} {memory out : List ℕ} {r : Answer} {m
   same : p ≡ run .ends .plan
   same = reads-one reads (run .ends .reads)
 
-  number : numbers r .number ≡ ending-number (run .ending)
-  number = ap (λ (a : Answer). numbers a .number) (run .told)
+  number : run-numbers r .number ≡ ending-number (run .ending)
+  number = ap (λ (a : RunAnswer). run-numbers a .number) (run .told)
 
   room : cells (run .ends .plan) ≤ lent memory
   room = sound-cells (reads-sound (run .ends .reads)) .0
 
-  pub without-c-never-full : numbers r .number ≢ FULL
+  pub without-c-never-full : run-numbers r .number ≢ FULL
   without-c-never-full h =
       without-c-not-full (lent memory) quota (run .ends .plan) (run .ends .ran) (subst WithoutC same plain) room
       (same-ending (run .ending) Full (sym number ∙ h))
 
-  pub without-c-ends-done : cells p ≤ quota → numbers r .number ≡ DONE
+  pub without-c-ends-done : cells p ≤ quota → run-numbers r .number ≡ DONE
   without-c-ends-done enough =
       number ∙ ap ending-number
       (without-c-done (lent memory) quota (run .ends .plan) (run .ends .ran) (subst WithoutC same plain) room

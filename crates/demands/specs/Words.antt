@@ -1,21 +1,18 @@
 -- The request's words for what a caller sees (the five numbers of an answer, and the bytes in the output) and for what a text
 -- means. A plan here has no places: two plans are the same when their items are.
-use Prim.Native.Nat.{ℕ, _/_, _<_, _≤_}
+use Prim.Native.Nat.{ℕ, _<_, _≤_}
 use mathlib.Core.Path.{_≡_}
 use mathlib.Core.Option.{some}
 use mathlib.Core.List.{List}
 use lib.ListN.{length, take}
-use Rattle.kinds.specs.Limits.{cellNumbers}
-use Rattle.plan.specs.declared.Answer.{Answer}
-use Rattle.plan.specs.declared.Answer.the-variants.{Refused}
-use Rattle.plan.specs.declared.Ending.{Ending}
-use Rattle.plan.specs.declared.Numbers.{Numbers}
-use Rattle.plan.specs.declared.Refusal.{Refusal}
+use Rattle.kinds.specs.Limits.{cellLimit, standard}
+use Rattle.rules.specs.declared.Ending.{Ending}
+use Rattle.numbers.specs.declared.Numbers.{Numbers}
 use Rattle.plan.specs.Plan.{Plan, bare, cells}
-use Rattle.plan.specs.Reading.{PLAN}
-use Rattle.plan.specs.Rewriting.{_⟶_, next}
-use Rattle.plan.specs.Running.{Leads, RAN, run-plan}
-use Rattle.plan.specs.Services.{accept, numbers, standard}
+use Rattle.plan.specs.Reading.{ACCEPTED, accept}
+use Rattle.rules.specs.Rewriting.{_⟶_, next}
+use Rattle.rules.specs.Running.{Leads, RAN, run-plan}
+use Rattle.answers.specs.Run.{quarter}
 
 -- numbers of document 01's answer table
 abbrev pub DONE : ℕ
@@ -39,31 +36,29 @@ OVERFULL = 17
 abbrev pub OUTSHORT : ℕ
 OUTSHORT = 18
 
--- the numbers 0 to 3; and the five numbers of a refusal
-abbrev pub Unrefused : Answer → Type 0
-Unrefused r = numbers r .number ≤ READ
+-- the numbers 0 to 3; and the five numbers of a refusal, of a service that tells its refusals so
+abbrev pub Unrefused : Numbers → Type 0
+Unrefused told = told .number ≤ READ
 
-abbrev pub refusal : Refusal → Numbers
-refusal x = numbers (Refused x)
-
-abbrev pub IsRefusal : Answer → Type 0
-IsRefusal r = (x : Refusal) × (numbers r ≡ refusal x)
+abbrev pub IsRefusal : {R : Type 0} → (refusal : R → Numbers) → Numbers → Type 0
+IsRefusal {R} refusal told = (x : R) × (told ≡ refusal x)
 
 -- the text that a call saved: the output's first bytes, as many as the answer's length says
-abbrev pub saved : Answer → List ℕ → List ℕ
-saved r out = take (numbers r .length) out
+abbrev pub saved : Numbers → List ℕ → List ℕ
+saved told out = take (told .length) out
 
 -- the cells that a work memory lends: N
 abbrev pub lent : List ℕ → ℕ
-lent memory = length memory / cellNumbers
+lent memory = quarter (length memory)
 
 abbrev pub Bare : Type 0
 Bare = Plan (Unit {0})
 
--- the text is accepted where n cells are lent, and reads as the plan p
+-- the text is accepted where n cells are lent, which may be so many, and reads as the plan p
 pub record Reads (n : ℕ) (text : List ℕ) (p : Bare) : Type 0 where
+  pub within : n ≤ cellLimit
   pub placed : Plan ℕ
-  pub accepted : accept standard n text ≡ PLAN placed
+  pub accepted : accept standard n text ≡ ACCEPTED placed
   pub same : bare placed ≡ p
 
 -- so many rewrites, in the fixed order, make q of the plan that the text reads as

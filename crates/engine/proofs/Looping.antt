@@ -9,11 +9,11 @@ use borrow.Author.Tests.{ltb-false, ltb-true}
 use lib.Dec.{ltb}
 use Rattle.kinds.specs.declared.Cell.{Cell}
 use Rattle.plan.specs.Plan.{Plan, bare, cells}
-use Rattle.plan.specs.Running.{Ran, RAN, one-more, run-plan}
-use Rattle.plan.specs.declared.Ending.{Ending}
-use Rattle.plan.specs.declared.Ending.the-variants.{Done, Quota, Full}
+use Rattle.rules.specs.Running.{Ran, RAN, one-more, run-plan}
+use Rattle.rules.specs.declared.Ending.{Ending}
+use Rattle.rules.specs.declared.Ending.the-variants.{Done, Quota, Full}
 use Rattle.plan.proofs.Plans.{cells-relabel}
-use Rattle.plan.proofs.Runs.{ask-relabel, retell, run-go, run-spent, run-stop}
+use Rattle.rules.proofs.Runs.{ask-relabel, retell, run-go, run-spent, run-stop}
 use Rattle.memory.specs.Model.{Aside, Lent}
 use Rattle.memory.specs.declared.Held.{Held}
 use Rattle.memory.proofs.Whole.{aside-on, aside-same, lent-kept}

@@ -7,13 +7,13 @@ use mathlib.Core.List.{List}
 use native.Mathlib.Omega.{arith}
 use lib.ListN.{length-append}
 use Rattle.kinds.specs.Limits.{cellLimit}
-use Rattle.plan.specs.Frames.{Frame, lead, plug}
+use Rattle.rules.specs.Frames.{Frame, lead, plug}
 use Rattle.plan.specs.Plan.{Plan, end, operator, block, _then_, cells, labels}
 use Rattle.plan.specs.declared.Operator.{Operator}
 use Rattle.plan.specs.declared.Operator.the-variants.{A as op-a, B as op-b, C as op-c, D as op-d}
-use Rattle.plan.proofs.Frames.{cells-plug}
+use Rattle.rules.proofs.Frames.{cells-plug}
 use Rattle.plan.proofs.Plans.{cells-then, length-labels, then-assoc}
-use Rattle.plan.proofs.Rewrites.{cells-a, cells-b, cells-c, cells-d}
+use Rattle.rules.proofs.Rewrites.{cells-a, cells-b, cells-c, cells-d}
 use Rattle.memory.specs.Held.{BlockIn, HeldIn}
 use Rattle.memory.specs.declared.Held.{Held}
 use Rattle.blocks.specs.Blocks.{HasBlock}

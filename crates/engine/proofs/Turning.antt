@@ -6,13 +6,13 @@ use mathlib.Core.Option.{some}
 use mathlib.Core.List.{List}
 use native.Mathlib.Omega.{arith}
 use borrow.Author.Tests.{lt-leb}
-use Rattle.plan.specs.Frames.{Frame, plug, top}
+use Rattle.rules.specs.Frames.{Frame, plug, top}
 use Rattle.plan.specs.Plan.{Plan, cells}
-use Rattle.plan.specs.Rewriting.{next}
-use Rattle.plan.specs.Running.{GO, ask}
-use Rattle.plan.specs.declared.Ending.the-variants.{Done, Quota, Full}
-use Rattle.plan.proofs.Frames.{ahead-top}
-use Rattle.plan.proofs.Runs.{ask-go}
+use Rattle.rules.specs.Rewriting.{next}
+use Rattle.rules.specs.Running.{GO, ask}
+use Rattle.rules.specs.declared.Ending.the-variants.{Done, Quota, Full}
+use Rattle.rules.proofs.Frames.{ahead-top}
+use Rattle.rules.proofs.Runs.{ask-go}
 use Rattle.memory.specs.Held.{HeldIn, HeldAlike}
 use Rattle.memory.specs.declared.Held.{Held}
 use Rattle.hunt.specs.Hunting.{Finds, Huntable}

@@ -3,11 +3,11 @@ use Prim.Native.Nat.{ℕ}
 use mathlib.Core.Path.{_≡_}
 use mathlib.Core.Bool.{Bool, true, false}
 use mathlib.Core.List.{List}
-use Rattle.plan.specs.declared.Ending.the-variants.{Done, Quota, Full}
-use Rattle.plan.specs.Frames.{Frame, plug}
+use Rattle.rules.specs.declared.Ending.the-variants.{Done, Quota, Full}
+use Rattle.rules.specs.Frames.{Frame, plug}
 use Rattle.plan.specs.Plan.{Plan, bare, cells}
-use Rattle.plan.specs.Rewriting.{next}
-use Rattle.plan.specs.Running.{STOP, GO, ask, RAN, run-plan}
+use Rattle.rules.specs.Rewriting.{next}
+use Rattle.rules.specs.Running.{STOP, GO, ask, RAN, run-plan}
 use Rattle.memory.specs.Held.{HeldIn, HeldAlike}
 use Rattle.memory.specs.Model.{Lent}
 use Rattle.memory.specs.declared.Held.{Held}

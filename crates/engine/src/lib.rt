@@ -2,7 +2,7 @@
 // next plan finds no room, or the quota is used up; asked in this order.
 ghost use mathlib.Core.Path.{_≡_};
 ghost use Prim.Native.Nat.{ℕ};
-ghost use Rattle.plan.specs.Frames.{Frame, plug};
+ghost use Rattle.rules.specs.Frames.{Frame, plug};
 ghost use Rattle.plan.specs.Plan.{Plan, cells};
 ghost use Rattle.memory.specs.Model.{Aside};
 ghost use Rattle.engine.specs.Running.{Countable, RanAs, Runnable, SameCells, Sized, Spotted, Turned};
@@ -11,9 +11,9 @@ use hunt::Hunted;
 use hunt::Spot;
 use hunt::hunt;
 use memory::Held;
-use plan::Ending;
 use plan::Operator;
 use rewrites::rewrite;
+use rules::Ending;
 
 // One turn of a run: it stops, or it goes on with the next plan, which has so many cells.
 pub enum Turn {

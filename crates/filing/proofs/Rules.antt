@@ -5,7 +5,7 @@ use mathlib.Core.Logic.{_↔_}
 use mathlib.Core.Bool.{Bool, true, false, cond, _&&_}
 use mathlib.Core.Option.{none, some}
 use mathlib.Core.List.{List}
-use Rattle.plan.specs.Services.{Limits}
+use Rattle.kinds.specs.Limits.{Limits}
 use Rattle.plan.proofs.Tests.{and-true, false-is-not-true, never}
 use Rattle.filing.specs.Answers.{after-done, closing-fault, filing-fault, unfinished}
 use Rattle.filing.specs.Format.{Entry}

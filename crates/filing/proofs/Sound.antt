@@ -9,7 +9,7 @@ use native.Mathlib.Omega.{arith}
 use borrow.Author.Tests.{eqb-true, le-ltb, ltb-false}
 use lib.Dec.{eqb, ltb}
 use lib.ListN.{length, drop, length-append}
-use Rattle.plan.specs.Services.{standard}
+use Rattle.kinds.specs.Limits.{standard}
 use Rattle.plan.proofs.Tests.{never}
 use Rattle.stored.specs.Counted.{AtFront, CUT, FRONT}
 use Rattle.filing.specs.Answers.{READS, REFUSES, by-rules, edition-1, judged, longest, unbroken}

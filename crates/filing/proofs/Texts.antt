@@ -4,9 +4,10 @@ use mathlib.Core.Path.{_≡_, ap, sym, _∙_}
 use mathlib.Core.Bool.{Bool, true, false, _&&_}
 use mathlib.Core.List.{List}
 use Rattle.plan.specs.Plan.{Plan, print}
-use Rattle.plan.specs.Reading.{PLAN, plan-of}
-use Rattle.plan.specs.Rewriting.{finished}
-use Rattle.plan.specs.Services.{Limits, accept, acceptable}
+use Rattle.plan.specs.Reading.{ACCEPTED, accept, plan-of}
+use Rattle.rules.specs.Rewriting.{finished}
+use Rattle.kinds.specs.Limits.{Limits}
+use Rattle.plan.specs.Read.{acceptable}
 use Rattle.plan.proofs.Acceptable.{AcceptableText, acceptable-plan, accepted-acceptable, accepted-plan}
 use Rattle.plan.proofs.Tests.{and-true}
 use Rattle.stored.specs.Same.{same}
@@ -25,7 +26,7 @@ module _ (lim : Limits) (text : List ℕ) where
     unacceptable-not-finished = ap (_&& finished (plan-of (lim .token) text)) h
 
   -- one that is accepted is printed when it is the printed text of what it reads as, and finished when that plan is
-  module _ {p : Plan ℕ} (h : accept lim (lim .cells) text ≡ PLAN p) where
+  module _ {p : Plan ℕ} (h : accept lim (lim .cells) text ≡ ACCEPTED p) where
     both : (f : Plan ℕ → Bool) → (acceptable lim text && f (plan-of (lim .token) text)) ≡ f p
     both f = ap (_&& f (plan-of (lim .token) text)) (accepted-acceptable lim text h) ∙ ap f (accepted-plan lim text h)
 

@@ -6,7 +6,7 @@ use mathlib.Core.List.{List, [], _∷_, _++_, map, reverse}
 use lib.Dec.{eqb, leb, ltb}
 use lib.ListN.{length, take, drop}
 use Rattle.plan.specs.Options.{_else_}
-use Rattle.plan.specs.Services.{Limits, standard}
+use Rattle.kinds.specs.Limits.{Limits, standard}
 use Rattle.stored.specs.Counted.{AtFront, CUT, FRONT, four-bytes, with-count}
 use Rattle.filing.specs.declared.RollAnswer.{RollAnswer}
 use Rattle.filing.specs.declared.RollAnswer.the-variants.{Listed, Refused}

@@ -8,8 +8,9 @@ use lib.Dec.{leb, ltb}
 use lib.ListN.{length}
 use Rattle.plan.specs.Plan.{print}
 use Rattle.plan.specs.Reading.{plan-of}
-use Rattle.plan.specs.Rewriting.{finished}
-use Rattle.plan.specs.Services.{Limits, acceptable}
+use Rattle.rules.specs.Rewriting.{finished}
+use Rattle.kinds.specs.Limits.{Limits}
+use Rattle.plan.specs.Read.{acceptable}
 use Rattle.stored.specs.Same.{same}
 use Rattle.filing.specs.Format.{Entry}
 

@@ -10,7 +10,7 @@ use lib.ListN.{length, drop}
 use Rattle.kinds.specs.Limits.{tokenLimit}
 use Rattle.plan.specs.Pieces.{Piece as PlanPiece, Shows, pieces}
 use Rattle.plan.specs.Plan.{Plan}
-use Rattle.plan.specs.Rewriting.{finished}
+use Rattle.rules.specs.Rewriting.{finished}
 use Rattle.pieces.specs.Written.{Is, is-operator, is-token, is-open, is-close}
 use Rattle.pieces.specs.declared.Piece.{Piece}
 use Rattle.items.specs.Walk.{Passed, ShowsAhead}

@@ -6,11 +6,11 @@ use mathlib.Core.Option.{Option, none, some}
 use mathlib.Core.List.{List, [], _∷_, _++_, append-assoc, append-nil}
 use lib.Dec.{eqb}
 use Rattle.plan.specs.declared.Operator.the-variants.{A as op-a, B as op-b, C as op-c, D as op-d}
-use Rattle.plan.specs.Leftmost.{takes}
+use Rattle.rules.specs.Leftmost.{takes}
 use Rattle.plan.specs.Options.{_else_, is-none, under}
 use Rattle.plan.specs.Pieces.{Piece, END, pieces}
 use Rattle.plan.specs.Plan.{Plan, end, operator, token, block}
-use Rattle.plan.specs.Rewriting.{after-two, finished, first-block, inner, next, outer}
+use Rattle.rules.specs.Rewriting.{after-two, finished, first-block, inner, next, outer}
 use Rattle.plan.proofs.Tests.{and-false}
 use Rattle.finished.specs.Stirring.{ends-block, first-takes, past-block, stirs, wakes}
 

@@ -4,7 +4,7 @@ use mathlib.Core.Path.{_≡_, refl, ap, sym, _∙_}
 use mathlib.Core.Bool.{Bool, false}
 use mathlib.Core.List.{List, [], _∷_}
 use lib.Dec.{eqb}
-use Rattle.plan.specs.Leftmost.{takes}
+use Rattle.rules.specs.Leftmost.{takes}
 use Rattle.plan.specs.Pieces.{Piece as PlanPiece}
 use Rattle.pieces.specs.Written.{Is, is-operator, is-token, is-open, is-close}
 use Rattle.pieces.specs.declared.Piece.{Piece}

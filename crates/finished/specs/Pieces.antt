@@ -5,7 +5,7 @@ use lib.Dec.{eqb}
 use lib.ListN.{length}
 use mathlib.Core.List.{List}
 use Rattle.kinds.specs.Limits.{textLimit, tokenLimit}
-use Rattle.plan.specs.Leftmost.{takes}
+use Rattle.rules.specs.Leftmost.{takes}
 use Rattle.plan.specs.Pieces.{Shows, pieces}
 use Rattle.plan.specs.Plan.{Plan}
 use Rattle.pieces.specs.declared.Piece.{Piece}

@@ -5,7 +5,7 @@ use Prim.Native.Nat.{ℕ, zero, suc}
 use mathlib.Core.Bool.{Bool, true, false, _&&_, _||_}
 use mathlib.Core.List.{List, [], _∷_}
 use lib.Dec.{eqb}
-use Rattle.plan.specs.Leftmost.{takes}
+use Rattle.rules.specs.Leftmost.{takes}
 use Rattle.plan.specs.Pieces.{Piece, OP, TOKEN, BEGIN, END}
 
 -- the pieces behind a block, where so many more blocks are open in it

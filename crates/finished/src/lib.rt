@@ -9,7 +9,7 @@ ghost use lib.ListN.{drop};
 ghost use Rattle.kinds.specs.Limits.{textLimit, tokenLimit};
 ghost use Rattle.plan.specs.Plan.{Plan};
 ghost use Rattle.plan.specs.Pieces.{Piece as PlanPiece, Shows, pieces};
-ghost use Rattle.plan.specs.Rewriting.{finished};
+ghost use Rattle.rules.specs.Rewriting.{finished};
 ghost use Rattle.pieces.specs.Written.{Is};
 ghost use Rattle.items.specs.Walk.{ShowsAhead};
 ghost use Rattle.finished.specs.Stirring.{first-takes, past-block, wakes};
@@ -69,7 +69,7 @@ fn takes(piece: Piece, blocks: u32) -> bool
     ensures { λ r. ⌜ r ≡ piece-takes piece blocks ⌝ }
 {
     match piece {
-        Piece::Operator(operator) => operator.takes() == blocks,
+        Piece::Operator(operator) => rules::takes(operator) == blocks,
         Piece::Token(_) => false,
         Piece::Open => false,
         Piece::Close => false,
@@ -93,7 +93,7 @@ fn stirs_here(text: &[u8], piece: Piece, rest: Cursor) -> bool
     ensures { λ r. ⌜ ((x : PlanPiece ℕ) (ps : List (PlanPiece ℕ)) → Is (now (text .entry)) piece x → Shows tokenLimit (rest .at) (drop (rest .at) (now (text .entry))) ps → r ≡ wakes (x ∷ ps)) ⌝ }
 {
     match piece {
-        Piece::Operator(operator) => operator.takes() == 1,
+        Piece::Operator(operator) => rules::takes(operator) == 1,
         Piece::Token(_) => false,
         Piece::Open => two_at(text, pass_block(text, rest)),
         Piece::Close => false,

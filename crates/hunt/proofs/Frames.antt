@@ -5,9 +5,9 @@ use Prim.Native.Nat.{ℕ, _≤_, _<_}
 use mathlib.Core.Path.{_≡_, refl, _∙_, subst}
 use mathlib.Core.List.{List, [], _∷_, _++_, append-assoc}
 use native.Mathlib.Omega.{arith}
-use Rattle.plan.specs.Frames.{Frame, top, within, plug}
+use Rattle.rules.specs.Frames.{Frame, top, within, plug}
 use Rattle.plan.specs.Plan.{Plan, end, operator, token, block, _then_, labels}
-use Rattle.plan.proofs.Frames.{lefts, rights, labels-plug}
+use Rattle.rules.proofs.Frames.{lefts, rights, labels-plug}
 use Rattle.memory.specs.Memory.{start, close, datum, block-kind, ports, Linked, Says, Below, Distinct, Holds}
 use Rattle.memory.proofs.Lists.{below-split, below-absent, distinct-split, linked-split}
 use Rattle.memory.proofs.Ports.{ports-then, says-then}

@@ -9,7 +9,7 @@ use native.Mathlib.Omega.{arith}
 use lib.ListN.{length}
 use Rattle.kinds.specs.Limits.{cellLimit}
 use Rattle.plan.specs.Plan.{Plan}
-use Rattle.plan.proofs.Frames.{found-ahead}
+use Rattle.rules.proofs.Frames.{found-ahead}
 use Rattle.memory.specs.Held.{HeldIn, held-numbers}
 use Rattle.memory.specs.Memory.{start, close, datum, link, block-kind, ports, Linked}
 use Rattle.memory.specs.Model.{Lent}

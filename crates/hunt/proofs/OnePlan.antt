@@ -7,8 +7,8 @@ use mathlib.Core.List.{List, [], _∷_, _++_, append-assoc, append-cancel-right}
 use native.Mathlib.Omega.{arith}
 use Rattle.plan.specs.Plan.{Plan, end, operator, token, block, close-brace}
 use Rattle.plan.specs.declared.Operator.{Operator}
-use Rattle.plan.specs.Numbered.{operator-number, operator-of}
-use Rattle.plan.proofs.Numbered.{operator-told}
+use Rattle.pieces.specs.Numbered.{operator-number, operator-of}
+use Rattle.pieces.proofs.Numbered.{operator-told}
 use Rattle.memory.specs.Memory.{start, close, datum, link, ports, Linked, Says, Holds}
 use Rattle.pieces.specs.Written.{TokenAt}
 use Rattle.memory.proofs.Lists.{linked-split}

@@ -9,7 +9,7 @@ use lib.ListN.{length, length-append}
 use Rattle.kinds.specs.Limits.{cellLimit}
 use Rattle.plan.specs.Plan.{Plan, end, operator, token, block}
 use Rattle.plan.specs.declared.Operator.{Operator}
-use Rattle.plan.proofs.Windows.{Window, no-block, begin, none-ready, front-token, past-token, window-block}
+use Rattle.rules.proofs.Windows.{Window, no-block, begin, none-ready, front-token, past-token, window-block}
 use Rattle.memory.specs.Held.{held-numbers}
 use Rattle.memory.specs.Memory.{start, close, datum, link, whole, ports, Says}
 use Rattle.memory.specs.Model.{Lent}

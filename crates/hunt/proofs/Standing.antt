@@ -10,11 +10,11 @@ use mathlib.Core.Option.{none}
 use native.Mathlib.Omega.{arith}
 use borrow.Author.Tests.{eq-eqb, ne-eqb}
 use lib.Dec.{eqb}
-use Rattle.plan.specs.Frames.{Frame, top, within, plug, Ahead, Inside}
+use Rattle.rules.specs.Frames.{Frame, top, within, plug, Ahead, Inside}
 use Rattle.plan.specs.Options.{under}
 use Rattle.plan.specs.Plan.{Plan, end, operator, token, block, _then_, labels}
-use Rattle.plan.specs.Rewriting.{outer, inner, next}
-use Rattle.plan.proofs.Frames.{none-ahead, inside-past, inside-enter, inside-leave, inside-end}
+use Rattle.rules.specs.Rewriting.{outer, inner, next}
+use Rattle.rules.proofs.Frames.{none-ahead, inside-past, inside-enter, inside-leave, inside-end}
 use Rattle.memory.specs.Memory.{start, close, datum, link, block-kind, ports, Linked, Says, Below, Holds}
 use Rattle.memory.proofs.Lists.{below-split}
 use Rattle.memory.specs.Numbered.{kind-of}

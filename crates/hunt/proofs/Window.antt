@@ -9,9 +9,9 @@ use native.Mathlib.Omega.{arith}
 use Rattle.plan.specs.Plan.{Plan, end, operator, token, block, _then_}
 use Rattle.plan.specs.declared.Operator.{Operator}
 use Rattle.plan.specs.declared.Operator.the-variants.{A as op-a, B as op-b, C as op-c, D as op-d}
-use Rattle.plan.specs.Rewriting.{after-two, first-block}
-use Rattle.plan.proofs.Windows.{Front, Window, no-block, one-block, two-blocks, Ready as At, ready}
-use Rattle.plan.proofs.Windows.{past, past-operator, past-token, past-block, window-block}
+use Rattle.rules.specs.Rewriting.{after-two, first-block}
+use Rattle.rules.proofs.Windows.{Front, Window, no-block, one-block, two-blocks, Ready as At, ready}
+use Rattle.rules.proofs.Windows.{past, past-operator, past-token, past-block, window-block}
 use Rattle.memory.specs.Memory.{start, close, ports, last-of}
 use Rattle.memory.specs.declared.Kind.the-variants.{Operator as OPERATOR}
 use Rattle.memory.proofs.Lists.{last-append}

@@ -5,11 +5,11 @@ use mathlib.Core.Bool.{Bool, true, false, cond}
 use mathlib.Core.Option.{none, some}
 use mathlib.Core.List.{List, [], _∷_, _++_}
 use lib.Dec.{eqb}
-use Rattle.plan.specs.Frames.{Frame, top, within, plug, Ahead, Rule}
+use Rattle.rules.specs.Frames.{Frame, top, within, plug, Ahead, Rule}
 use Rattle.plan.specs.Plan.{Plan, labels}
 use Rattle.plan.specs.declared.Operator.{Operator}
 use Rattle.plan.specs.declared.Operator.the-variants.{A as op-a, B as op-b, C as op-c, D as op-d}
-use Rattle.plan.specs.Rewriting.{outer, next}
+use Rattle.rules.specs.Rewriting.{outer, next}
 use Rattle.memory.specs.Held.{HeldIn, held-numbers}
 use Rattle.memory.specs.Memory.{start, close, datum, ports, Linked, Says, Below, Distinct, last-of}
 use Rattle.memory.specs.Model.{Lent}

@@ -13,14 +13,7 @@ use Rattle.plan.specs.Plan.{close-brace, open-brace}
 use Rattle.plan.specs.Pieces.{Found, Piece as PlanPiece, OP, TOKEN, BEGIN, END, Shows, a-mark, an-operator, a-token, opens, closes, piece-print}
 use Rattle.plan.specs.Reading.{Byte, class, mark}
 use Rattle.plan.specs.declared.Class.{Class}
-use Rattle.plan.specs.declared.Class.the-variants.{
-  Operator as OPERATOR,
-  Open as OPEN,
-  Close as CLOSE,
-  Brace as BRACE,
-  Blank as BLANK,
-  Bad as BAD,
-}
+use Rattle.plan.specs.declared.Class.the-variants.{Operator as OPERATOR, Open as OPEN, Close as CLOSE, Brace as BRACE, Blank as BLANK, Bad as BAD}
 use Rattle.plan.specs.declared.Operator.{Operator}
 use Rattle.plan.proofs.Classes.{class-byte}
 use Rattle.plan.proofs.Marks.{mark-told}

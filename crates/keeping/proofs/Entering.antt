@@ -10,7 +10,7 @@ use borrow.Author.Tests.{leb-true}
 use lib.Dec.{leb, ltb}
 use lib.ListN.{length, length-reverse}
 use Rattle.kinds.specs.Limits.{textLimit}
-use Rattle.plan.specs.Services.{standard}
+use Rattle.kinds.specs.Limits.{standard}
 use Rattle.pieces.specs.Written.{put-at}
 use Rattle.filing.specs.Answers.{Added, Judged, add-to, closing-fault, edition-1, filing-fault, longest, new-bytes, not-added}
 use Rattle.filing.proofs.Rules.{closing-exactly, filing-exactly, obeys-done, obeys-filed}

@@ -17,3 +17,12 @@ cellNumbers = 4
 -- the bytes of a text
 abbrev pub textLimit : ℕ
 textLimit = 1048576
+
+-- the limits that reading takes as arguments, and the standard ones
+pub record Limits : Type 0 where
+  pub token : ℕ
+  pub cells : ℕ
+  pub text : ℕ
+
+abbrev pub standard : Limits
+standard = record { token = tokenLimit; cells = cellLimit; text = textLimit }

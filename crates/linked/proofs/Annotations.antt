@@ -5,59 +5,38 @@ use mathlib.Core.Bool.{Bool, true, false, cond, _||_}
 use mathlib.Core.Option.{Option, some}
 use mathlib.Core.List.{List, [], _∷_, map}
 use native.Mathlib.Omega.{arith}
-use Rattle.kinds.specs.Limits.{cellLimit, tokenLimit}
+use Rattle.kinds.specs.Limits.{cellLimit, standard, tokenLimit}
 use Rattle.plan.specs.Options.{under}
 use Rattle.plan.specs.Pieces.{placed}
 use Rattle.plan.specs.Plan.{Plan, end, operator, token, block, bare, cells}
 use Rattle.plan.specs.Reading.{HoldsAnnotation, OUTSIDE, read, without-marks, plan-in, plan-of}
-use Rattle.plan.specs.Services.{acceptable, standard}
+use Rattle.plan.specs.Read.{acceptable}
 use Rattle.plan.proofs.Acceptable.{AcceptableText, acceptable-plan, accepted-acceptable}
 use Rattle.plan.proofs.Annotations.{accept-without-marks, print-no-annotation}
 use Rattle.plan.proofs.Faultless.{without-marks-length}
 use Rattle.plan.proofs.ReadBack.{bare-placed, read-print}
 use Rattle.plan.proofs.Refusals.{read-faultless}
-use Rattle.plan.proofs.Slots.{standard-roomy}
+use Rattle.plan.proofs.Accepting.{standard-roomy}
 use Rattle.stored.specs.Same.{same}
-use Rattle.words.specs.Answers.{LinkWritten, link-text}
+use Rattle.words.specs.Answers.{link-numbers, links}
 use Rattle.words.specs.Linking.{Word, holds, in-place, link, listed, stands-for, stock-token, used}
 use Rattle.words.specs.Stock.{fits, right}
 use Rattle.words.specs.declared.LinkAnswer.{LinkAnswer}
 use Rattle.words.proofs.Listing.{Right, right-word}
 use Rattle.linking.specs.Calls.{Links}
+use Rattle.demands.specs.Words.{saved}
 use Rattle.linked.specs.Lists.{HasWords}
-use Rattle.linked.specs.Words.{IsLinked, HasPlan, linked-by, saved, without-its-marks}
-use Rattle.linked.proofs.Cases.{
-  LinkCase,
-  bad-list,
-  bad-text,
-  by-bad-list,
-  by-bad-text,
-  by-linked-plan,
-  fault-or-plan,
-  is-linked,
-  link-case,
-  linked-as,
-  linked-by-words,
-  out-short,
-  over-full,
-  same-written,
-}
+use Rattle.linked.specs.Words.{IsLinked, HasPlan, linked-by, without-its-marks}
+use Rattle.linked.proofs.Cases.{LinkCase, bad-list, bad-text, by-bad-list, by-bad-text, by-linked-plan, fault-or-plan, is-linked, link-case, linked-as, linked-by-words, out-short, over-full, same-calls, same-within}
 use Rattle.linked.proofs.Lists.{not-both, words-right}
 use Rattle.linked.proofs.Meanings.{holds-relabel, linked-allowed, linked-same, reads-known, relabel-link}
 
 -- the saved text holds no annotation
-pub linked-unannotated : {list text out : List ℕ} {r : LinkAnswer} {out′ : List ℕ} → Links list text out r out′ → IsLinked r → HoldsAnnotation (saved r out′) → ⊥
+pub linked-unannotated : {list text out : List ℕ} {r : LinkAnswer} {out′ : List ℕ} → Links list text out r out′ → IsLinked (link-numbers r)
+    → HoldsAnnotation (saved (link-numbers r) out′) → ⊥
 linked-unannotated call linked =
     let (ws, p, has, reads) = linked-by-words call linked in
     subst (λ t. HoldsAnnotation t → ⊥) (sym (linked-as call has reads linked .first)) (print-no-annotation tokenLimit (linked-by ws p) (linked-allowed has reads))
-
--- calls that write the same answer and leave the same bytes
-written-same : {list list₂ text text₂ out : List ℕ} {r s : LinkAnswer} {a b : List ℕ} → Links list text out r a → Links list₂ text₂ out s b
-    → link-text standard list₂ text₂ out ≡ link-text standard list text out → (s ≡ r) × (b ≡ a)
-written-same call bare e = (
-  bare .answer ∙ ap (λ (w : LinkWritten). w .answer) e ∙ sym (call .answer),
-  bare .output ∙ ap (λ (w : LinkWritten). w .output) e ∙ sym (call .output),
-)
 
 -- a text that reads, however many cells it has, reads without its marks as the same plan
 text-reads : {text : List ℕ} {p : Plan ℕ} → HasPlan text p → HasPlan (without-marks OUTSIDE text) (placed 0 p)
@@ -72,15 +51,15 @@ text-reads {text} {p} reads =
 -- a plan text with annotations links as without them, by every list
 pub text-without-marks : {list text out : List ℕ} {r s : LinkAnswer} {a b : List ℕ} {p : Plan ℕ}
     → Links list text out r a → Links list (without-marks OUTSIDE text) out s b → HasPlan text p → (s ≡ r) × (b ≡ a)
-text-without-marks {list} {text} {out} call bare reads = written-same call bare (go (link-case call))
+text-without-marks {list} {text} {out} call bare reads = same-calls bare call (go (link-case call))
   where
     by-words : {ws : List Word} {q : Plan ℕ} → HasWords list ws → HasPlan text q
-        → link-text standard list (without-marks OUTSIDE text) out ≡ link-text standard list text out
+        → links standard list (without-marks OUTSIDE text) ≡ links standard list text
     by-words {ws} {q} has reads =
-        by-linked-plan has (text-reads reads) out ∙ same-written _ _ (linked-same ws (placed 0 q) q (bare-placed 0 q)) out ∙ sym (by-linked-plan has reads out)
+        by-linked-plan has (text-reads reads) ∙ same-within _ _ (linked-same ws (placed 0 q) q (bare-placed 0 q)) ∙ sym (by-linked-plan has reads)
 
-    go : {r : LinkAnswer} {a : List ℕ} → LinkCase list text out r a → link-text standard list (without-marks OUTSIDE text) out ≡ link-text standard list text out
-    go (bad-list bad) = by-bad-list bad (without-marks OUTSIDE text) out ∙ sym (by-bad-list bad text out)
+    go : {r : LinkAnswer} {a : List ℕ} → LinkCase list text out r a → links standard list (without-marks OUTSIDE text) ≡ links standard list text
+    go (bad-list bad) = by-bad-list bad (without-marks OUTSIDE text) ∙ sym (by-bad-list bad text)
     go (bad-text has bad) = fault-or-plan bad reads
     go (over-full has reads over) = by-words has reads
     go (out-short has reads few short) = by-words has reads
@@ -104,7 +83,7 @@ module _ (w : Word) (text : AcceptableText standard (w .text)) where
 
   still-acceptable : acceptable standard (without-marks OUTSIDE (w .text)) ≡ true
   still-acceptable =
-      accepted-acceptable standard (without-marks OUTSIDE (w .text)) (accept-without-marks standard standard-roomy cellLimit (w .text) (text .accepted))
+      accepted-acceptable standard (without-marks OUTSIDE (w .text)) (accept-without-marks standard standard-roomy cellLimit (omega arith) (w .text) (text .accepted))
 
 its-text : (older : List Word) (w : Word) → right standard older w ≡ true → AcceptableText standard (w .text)
 its-text older w one = acceptable-plan standard (w .text) (right-word standard older w one .reads)
@@ -141,16 +120,16 @@ stands-alike (w ∷ older) (one, r) t = go (same t (stock-token w)) (stands-alik
 -- a word's text with annotations links as without them: every text gets the same answer, and every output the same bytes
 pub words-without-marks : {list list₂ text out : List ℕ} {ws : List Word} {r s : LinkAnswer} {a b : List ℕ} → HasWords list ws → HasWords list₂ (map without-its-marks ws)
     → Links list text out r a → Links list₂ text out s b → (s ≡ r) × (b ≡ a)
-words-without-marks {list} {list₂} {text} {out} {ws} has has₂ call bare = written-same call bare (go (link-case call))
+words-without-marks {list} {list₂} {text} {out} {ws} has has₂ call bare = same-calls bare call (go (link-case call))
   where
-    by-plan : {p : Plan ℕ} → HasPlan text p → link-text standard list₂ text out ≡ link-text standard list text out
+    by-plan : {p : Plan ℕ} → HasPlan text p → links standard list₂ text ≡ links standard list text
     by-plan {p} reads =
-        by-linked-plan has₂ reads out
-        ∙ same-written _ _ (linked-alike (map without-its-marks ws) ws (stands-alike ws (words-right has)) p p refl) out ∙ sym (by-linked-plan has reads out)
+        by-linked-plan has₂ reads
+        ∙ same-within _ _ (linked-alike (map without-its-marks ws) ws (stands-alike ws (words-right has)) p p refl) ∙ sym (by-linked-plan has reads)
 
-    go : {r : LinkAnswer} {a : List ℕ} → LinkCase list text out r a → link-text standard list₂ text out ≡ link-text standard list text out
+    go : {r : LinkAnswer} {a : List ℕ} → LinkCase list text out r a → links standard list₂ text ≡ links standard list text
     go (bad-list bad) = not-both bad has
-    go (bad-text own bad) = by-bad-text has₂ bad out ∙ sym (by-bad-text has bad out)
+    go (bad-text own bad) = by-bad-text has₂ bad ∙ sym (by-bad-text has bad)
     go (over-full own reads over) = by-plan reads
     go (out-short own reads few short) = by-plan reads
     go (is-linked own reads few fits) = by-plan reads

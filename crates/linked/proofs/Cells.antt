@@ -4,7 +4,7 @@ use mathlib.Core.Path.{_≡_, ap, _∙_}
 use mathlib.Core.Bool.{false}
 use mathlib.Core.List.{List, _∷_, _++_}
 use Rattle.kinds.specs.Limits.{tokenLimit}
-use Rattle.plan.specs.declared.Numbers.{Numbers}
+use Rattle.numbers.specs.declared.Numbers.{Numbers}
 use Rattle.plan.specs.Plan.{Plan, cells}
 use Rattle.plan.specs.Reading.{plan-of}
 use Rattle.words.specs.Answers.{link-numbers}
@@ -39,6 +39,6 @@ unfolding weight-by cells-put
 unlisted-counts-for ws t e = ap cells-put (stands-none tokenLimit ws t .1 e)
 
 -- these are the cells that a call tells
-pub told-cells : {list text out : List ℕ} {r : LinkAnswer} {out′ : List ℕ} → Links list text out r out′ → IsLinked r
+pub told-cells : {list text out : List ℕ} {r : LinkAnswer} {out′ : List ℕ} → Links list text out r out′ → IsLinked (link-numbers r)
     → {ws : List Word} {p : Plan ℕ} → HasWords list ws → HasPlan text p → link-numbers r .cells ≡ weighed (counts-for ws) p
 told-cells call linked {ws} {p} has reads = ap (λ (v : Numbers). v .cells) (linked-as call has reads linked .numbers) ∙ linked-cells ws p

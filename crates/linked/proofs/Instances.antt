@@ -6,26 +6,26 @@ use mathlib.Core.List.{List, [], _∷_, _++_, map}
 use native.Mathlib.Omega.{arith}
 use lib.ListN.{length, replicate, length-replicate}
 use Rattle.kinds.specs.Limits.{textLimit}
-use Rattle.plan.specs.declared.Operator.the-variants.{A}
 use Rattle.plan.specs.declared.TextFault.the-variants.{TooLong, Unmatched}
 use Rattle.plan.specs.Options.{under}
-use Rattle.plan.specs.Plan.{Plan, _then_, cells, labels, letter, print}
-use Rattle.plan.specs.Reading.{class, enter, fit, go-on, leave, mark, move, past-token, place, read, read-from, without-marks, plan-in, plan-of}
-use Rattle.plan.specs.Services.{accept, acceptable, as-read, is-given, reads}
-use Rattle.plan.specs.Token.{annotation, follows, scalar, value, well-formed, all-permitted, allowed, before-brace, character, if-allowed, may-hold, permits, token-text}
-use Rattle.plan.specs.Worked.{bytes}
+use Rattle.plan.specs.Outcomes.{is-given, write}
+use Rattle.plan.specs.Plan.{Plan, _then_, cells, letter, print}
+use Rattle.plan.specs.Read.{acceptable, as-read, reads}
+use Rattle.plan.specs.Reading.{accept, class, enter, fit, go-on, leave, mark, move, past-token, place, plan-in, plan-of, read-from, read-text, without-marks}
+use Rattle.plan.specs.Token.{all-permitted, allowed, annotation, before-brace, character, if-allowed, may-hold, permits, token-text}
+use Rattle.numbers.specs.Rows.{bytes}
 use Rattle.stored.specs.Counted.{counted, number, so-many, then-read}
 use Rattle.stored.specs.Same.{same}
-use Rattle.words.specs.Answers.{link-by, link-numbers, link-read, link-text, links, read-text, within, write-linked}
+use Rattle.words.specs.Answers.{link-by, link-numbers, link-read, link-refusal-numbers, links, within}
 use Rattle.words.specs.Linking.{Word, holds, in-place, link, listed, stands-for, used}
 use Rattle.words.specs.Stock.{as-counted, fits, is-name, next-word, right, stock, stocked, word}
 use Rattle.words.specs.declared.LinkAnswer.the-variants.{Linked, Refused}
 use Rattle.words.specs.declared.LinkRefusal.the-variants.{BadWords, Text, Overfull, OutShort}
 use Rattle.linking.specs.Calls.{Links}
-use Rattle.turnip.specs.Linking.{LinkAnswers}
+use Rattle.turnip.specs.Stored.{Answers, five}
 use Rattle.linked.specs.Lists.{BadList, FaultyWord, HasWords, bad-name, bad-text, earlier, named-already, newest, no-name, used-already}
-use Rattle.linked.specs.Table.{AsAsked, Faulty, LinkRefuses, LinkedAs, row-11}
-use Rattle.linked.specs.Words.{IsLinked, HasPlan, no-words, refusal, without-its-marks}
+use Rattle.linked.specs.Table.{AsAsked, HasFault, LinkRefuses, LinkedAs, row-11}
+use Rattle.linked.specs.Words.{IsLinked, HasPlan, no-words, without-its-marks}
 use Rattle.linked.proofs.Cases.{linked-as, linked-by-words}
 use Rattle.linked.proofs.Lists.{right-exactly-when}
 use Rattle.linked.proofs.OneAnswer.{link-as-asked}
@@ -76,20 +76,20 @@ pub calls : Links list text out (Linked 9 22) (bytes "[{y}][{y}][[{y}]]{%q}a" ++
     × Links (2 ∷ 0 ∷ 0 ∷ 0 ∷ in-list (bytes "x") (bytes "[{%z}]") ++ in-list (bytes "z") []) text out (Refused (BadWords 1)) out
     × Links too-big (bytes "{%w}") out (Linked 1 1) (97 ∷ replicate 23 7)
     × Links (annotated (bytes "{&}{y}")) (bytes "{&a}{%x}") out (Linked 1 3) (bytes "{y}" ++ replicate 21 7)
-unfolding uses link-text links link-by link-read within write-linked read-text stock as-counted stocked next-word right fits is-name acceptable is-given reads as-read word listed used holds plan-of plan-in link in-place stands-for number so-many counted then-read same accept read read-from go-on move past-token mark annotation fit class token-text if-allowed before-brace allowed all-permitted permits may-hold character value follows scalar well-formed cells labels print letter _then_ under bytes
+unfolding uses links link-by link-read within write read-text stock as-counted stocked next-word right fits is-name acceptable is-given reads as-read word listed used holds plan-of plan-in link in-place stands-for number so-many counted then-read same accept read-from go-on move past-token mark annotation fit class token-text if-allowed before-brace allowed all-permitted permits may-hold character cells print letter _then_ under bytes
 calls = (
-  record { answer = refl; output = refl },
-  record { answer = refl; output = refl },
-  record { answer = refl; output = refl },
-  record { answer = refl; output = refl },
-  record { answer = refl; output = refl },
-  record { answer = refl; output = refl },
-  record { answer = refl; output = refl },
-  record { answer = refl; output = refl },
-  record { answer = refl; output = refl },
-  record { answer = refl; output = refl },
-  record { answer = refl; output = refl },
-  record { answer = refl; output = refl },
+  record { wrote = record { answer = refl; output = refl } },
+  record { wrote = record { answer = refl; output = refl } },
+  record { wrote = record { answer = refl; output = refl } },
+  record { wrote = record { answer = refl; output = refl } },
+  record { wrote = record { answer = refl; output = refl } },
+  record { wrote = record { answer = refl; output = refl } },
+  record { wrote = record { answer = refl; output = refl } },
+  record { wrote = record { answer = refl; output = refl } },
+  record { wrote = record { answer = refl; output = refl } },
+  record { wrote = record { answer = refl; output = refl } },
+  record { wrote = record { answer = refl; output = refl } },
+  record { wrote = record { answer = refl; output = refl } },
 )
 
 -- a list with an annotation in a word's text, and the list without it
@@ -112,7 +112,7 @@ bad-lists = (
 -- a word at fault, in each of the ways: `OneOf` in both of its own, and `Uses` in a block
 pub faulty-words : FaultyWord [] (of [] []) × FaultyWord [] (of (bytes "{") []) × FaultyWord (of (bytes "z") [] ∷ of (bytes "x") [] ∷ []) (of (bytes "x") [])
     × FaultyWord [] (of (bytes "x") (bytes "{y}]")) × FaultyWord [] (of (bytes "x") (bytes "[{%x}]"))
-unfolding holds plan-of plan-in same acceptable is-given reads as-read accept read read-from go-on move past-token mark annotation fit class token-text if-allowed before-brace allowed all-permitted permits may-hold character value follows scalar well-formed cells labels _then_ under bytes
+unfolding holds plan-of plan-in same acceptable is-given reads as-read accept read-text read-from go-on move past-token mark annotation fit class token-text if-allowed before-brace allowed all-permitted permits may-hold character cells _then_ under bytes
 faulty-words = (
   no-name refl,
   bad-name refl,
@@ -122,7 +122,7 @@ faulty-words = (
 )
 
 -- `HasWords`, with `WholeWords` in it, `HasPlan`, and what a call that links answers and leaves
-pub a-linked-call : IsLinked (Linked 9 22) × ((ws : List Word) × (p : Plan ℕ) × HasWords list ws × HasPlan text p
+pub a-linked-call : IsLinked (link-numbers (Linked 9 22)) × ((ws : List Word) × (p : Plan ℕ) × HasWords list ws × HasPlan text p
     × LinkedAs out ws p (link-numbers (Linked 9 22)) (bytes "[{y}][{y}][[{y}]]{%q}a" ++ 7 ∷ 7 ∷ []))
 a-linked-call =
     let (ws, p, has, reads) = linked-by-words (calls .0) refl in (refl, (ws, p, has, reads, linked-as (calls .0) has reads refl))
@@ -138,14 +138,14 @@ refused-calls = (
 )
 
 -- and a text that is too long
-pub too-long : (n : ℕ) → textLimit < n → Faulty (replicate n 32) TooLong
+pub too-long : (n : ℕ) → textLimit < n → HasFault (replicate n 32) TooLong
 too-long n long = row-11 (omega (arith, length-replicate {A = ℕ} n 32))
 
 -- five numbers stored over the C interface
-pub five-stored : LinkAnswers (λ r. Links list text out r (bytes "[{y}][{y}][[{y}]]{%q}a" ++ 7 ∷ 7 ∷ [])) (3 ∷ 0 ∷ 9 ∷ 22 ∷ 0 ∷ [])
+pub five-stored : Answers (λ r. five (link-numbers r)) (λ r. Links list text out r (bytes "[{y}][{y}][[{y}]]{%q}a" ++ 7 ∷ 7 ∷ [])) (3 ∷ 0 ∷ 9 ∷ 22 ∷ 0 ∷ [])
 five-stored = record { answer = Linked 9 22; did = calls .0; told = refl }
 
 -- and the whole table as one statement, in both of its ways
 pub as-asked : AsAsked list text out (link-numbers (Linked 9 22)) (bytes "[{y}][{y}][[{y}]]{%q}a" ++ 7 ∷ 7 ∷ [])
-    × AsAsked list text [] (refusal (OutShort 22)) []
+    × AsAsked list text [] (link-refusal-numbers (OutShort 22)) []
 as-asked = (link-as-asked (calls .0), link-as-asked (calls .1))

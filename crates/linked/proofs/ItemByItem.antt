@@ -6,7 +6,7 @@ use mathlib.Core.Logic.{_↔_}
 use mathlib.Core.List.{List, _++_}
 use lib.ListN.{length, length-append}
 use Rattle.kinds.specs.Limits.{cellLimit, textLimit, tokenLimit}
-use Rattle.plan.specs.declared.Numbers.{Numbers}
+use Rattle.numbers.specs.declared.Numbers.{Numbers}
 use Rattle.plan.specs.Plan.{Plan, _then_, bare, cells, print}
 use Rattle.plan.proofs.Faultless.{marks-then, faultless-then}
 use Rattle.plan.proofs.Plans.{allowed-then, cells-then, print-then}
@@ -17,9 +17,10 @@ use Rattle.words.specs.Linking.{Word, stands-for}
 use Rattle.words.specs.declared.LinkAnswer.{LinkAnswer}
 use Rattle.words.proofs.Linked.{link-then}
 use Rattle.linking.specs.Calls.{Links}
+use Rattle.demands.specs.Words.{saved}
 use Rattle.linked.specs.Lists.{HasWords}
 use Rattle.linked.specs.Table.{LinkedAs}
-use Rattle.linked.specs.Words.{IsLinked, HasPlan, linked-by, saved}
+use Rattle.linked.specs.Words.{IsLinked, HasPlan, linked-by}
 use Rattle.linked.proofs.Cases.{call-linked, linked-as, linked-by-words}
 use Rattle.linked.proofs.Meanings.{bare-cells, bare-print, linked-same, reads-faultless, reads-known}
 
@@ -60,8 +61,8 @@ then-print {p = p} {q} ws x =
     ∙ print-then (linked-by ws p) (linked-by ws q)
 
 -- of calls that linked two texts by the same list, and a call for the two texts one behind the other
-module _ {list a b out₁ out₂ out : List ℕ} {r₁ r₂ r : LinkAnswer} {left₁ left₂ left : List ℕ} (one : Links list a out₁ r₁ left₁) (linked₁ : IsLinked r₁)
-    (other : Links list b out₂ r₂ left₂) (linked₂ : IsLinked r₂) (both : Links list (a ++ b) out r left) where
+module _ {list a b out₁ out₂ out : List ℕ} {r₁ r₂ r : LinkAnswer} {left₁ left₂ left : List ℕ} (one : Links list a out₁ r₁ left₁) (linked₁ : IsLinked (link-numbers r₁))
+    (other : Links list b out₂ r₂ left₂) (linked₂ : IsLinked (link-numbers r₂)) (both : Links list (a ++ b) out r left) where
   abbrev read₁ : (ws : List Word) × (p : Plan ℕ) × HasWords list ws × HasPlan a p
   read₁ = linked-by-words one linked₁
 
@@ -95,16 +96,16 @@ module _ {list a b out₁ out₂ out : List ℕ} {r₁ r₂ r : LinkAnswer} {lef
         ap length (then-print ws x) ∙ length-append (print (linked-by ws p)) (print (linked-by ws q))
         ∙ ap₂ _+_ (sym (ap (λ (v : Numbers). v .length) (first .numbers))) (sym (ap (λ (v : Numbers). v .length) (second .numbers)))
 
-  together : IsLinked r → ReadsThen a b p q
+  together : IsLinked (link-numbers r) → ReadsThen a b p q
   together linked = reads-then (read₁ .3) (read₂ .3) (linked-by-words both linked .3 .short)
 
   -- that call links them exactly when the texts are not too long together, nor the linked plans too big, nor the output too short;
-  pub linked-both : IsLinked r
+  pub linked-both : IsLinked (link-numbers r)
       ↔ ((length (a ++ b) ≤ textLimit) × (link-numbers r₁ .cells + link-numbers r₂ .cells ≤ cellLimit)
       × (link-numbers r₁ .length + link-numbers r₂ .length ≤ length out))
   linked-both = (to, from)
     where
-      to : IsLinked r
+      to : IsLinked (link-numbers r)
           → (length (a ++ b) ≤ textLimit) × (link-numbers r₁ .cells + link-numbers r₂ .cells ≤ cellLimit)
           × (link-numbers r₁ .length + link-numbers r₂ .length ≤ length out)
       to linked =
@@ -113,14 +114,14 @@ module _ {list a b out₁ out₂ out : List ℕ} {r₁ r₂ r : LinkAnswer} {lef
           (x .reads .short, subst (_≤ cellLimit) (sum-cells x) (y .few), subst (_≤ length out) (sum-length x) (y .fits))
 
       from : (length (a ++ b) ≤ textLimit) × (link-numbers r₁ .cells + link-numbers r₂ .cells ≤ cellLimit)
-          × (link-numbers r₁ .length + link-numbers r₂ .length ≤ length out) → IsLinked r
+          × (link-numbers r₁ .length + link-numbers r₂ .length ≤ length out) → IsLinked (link-numbers r)
       from (short, few, fits) =
           let x = reads-then (read₁ .3) (read₂ .3) short in
           call-linked both (read₁ .2) (x .reads) (subst (_≤ cellLimit) (sym (sum-cells x)) few) (subst (_≤ length out) (sym (sum-length x)) fits)
 
   -- and then its text is the one's linked text, then the other's, and the cells and lengths are added
-  pub links-then : IsLinked r
-      → (saved r left ≡ saved r₁ left₁ ++ saved r₂ left₂) × (link-numbers r .cells ≡ link-numbers r₁ .cells + link-numbers r₂ .cells)
+  pub links-then : IsLinked (link-numbers r)
+      → (saved (link-numbers r) left ≡ saved (link-numbers r₁) left₁ ++ saved (link-numbers r₂) left₂) × (link-numbers r .cells ≡ link-numbers r₁ .cells + link-numbers r₂ .cells)
       × (link-numbers r .length ≡ link-numbers r₁ .length + link-numbers r₂ .length)
   links-then linked =
       let x = together linked in

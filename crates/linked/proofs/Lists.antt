@@ -10,52 +10,18 @@ use native.Mathlib.Nat.{add-zero, zero-add}
 use borrow.Author.Tests.{leb-true, leb-false, le-leb, lt-leb, not-false}
 use lib.Dec.{leb}
 use lib.ListN.{length}
-use Rattle.kinds.specs.Limits.{tokenLimit}
+use Rattle.kinds.specs.Limits.{standard, tokenLimit}
+use Rattle.plan.specs.Read.{acceptable}
 use Rattle.plan.specs.Reading.{plan-of}
-use Rattle.plan.specs.Services.{acceptable, standard}
 use Rattle.plan.specs.Token.{allowed}
 use Rattle.plan.proofs.Tests.{and-true, false-is-not-true, never}
 use Rattle.stored.specs.Counted.{AtFront, CUT, FRONT, number}
 use Rattle.stored.specs.Same.{same}
 use Rattle.stored.proofs.Same.{same-equal, same-true}
 use Rattle.words.specs.Linking.{Word, holds, listed, stock-token, used}
-use Rattle.words.specs.Stock.{
-  FAULT,
-  Stock,
-  WORDS,
-  as-counted,
-  fits,
-  is-name,
-  next-word,
-  right,
-  stock,
-  stocked,
-  word,
-  wordLimit,
-}
+use Rattle.words.specs.Stock.{FAULT, Stock, WORDS, as-counted, fits, is-name, next-word, right, stock, stocked, word, wordLimit}
 use Rattle.words.proofs.Listing.{Right, right-word, stock-right}
-use Rattle.linked.specs.Lists.{
-  BadList,
-  FaultyWord,
-  HasWords,
-  OneOf,
-  Uses,
-  WholeWords,
-  bad-name,
-  bad-text,
-  bytes-after,
-  count-cut,
-  count-over,
-  earlier,
-  named-already,
-  newest,
-  no-name,
-  none-yet,
-  one-more,
-  used-already,
-  word-cut,
-  word-faulty,
-}
+use Rattle.linked.specs.Lists.{BadList, FaultyWord, HasWords, OneOf, Uses, WholeWords, bad-name, bad-text, bytes-after, count-cut, count-over, earlier, named-already, newest, no-name, none-yet, one-more, used-already, word-cut, word-faulty}
 use Rattle.linked.specs.Words.{no-words}
 
 -- The tests of a word, one by one.

@@ -6,22 +6,20 @@ use mathlib.Core.Bool.{_||_}
 use mathlib.Core.Option.{Option, none, some}
 use mathlib.Core.List.{List, []}
 use native.Mathlib.Omega.{arith}
-use borrow.Author.Tests.{le-leb, le-ltb, lt-leb}
-use lib.ListN.{length, getD}
-use Rattle.kinds.specs.Limits.{cellLimit, textLimit, tokenLimit}
-use Rattle.plan.specs.declared.Refusal.the-variants.{Overfull}
+use borrow.Author.Tests.{lt-leb}
+use Rattle.kinds.specs.Limits.{cellLimit, standard, tokenLimit}
+use Rattle.plan.specs.declared.Unread.the-variants.{Overfull}
 use Rattle.plan.specs.Options.{under}
 use Rattle.plan.specs.Pieces.{placed}
-use Rattle.plan.specs.Plan.{Plan, end, operator, token, block, bare, cells, labels, print, relabel}
-use Rattle.plan.specs.Reading.{PLAN, REFUSED, fit, place, read}
+use Rattle.plan.specs.Plan.{Plan, end, operator, token, block, bare, cells, print, relabel}
+use Rattle.plan.specs.Reading.{ACCEPTED, PLAN, UNREAD, accept, fit, place-of-item, read-text}
 use Rattle.plan.specs.Refusals.{Faultless}
-use Rattle.plan.specs.Services.{accept, standard}
 use Rattle.plan.specs.Token.{Allowed}
 use Rattle.plan.proofs.Acceptable.{accepted-parts, parts-accepted}
+use Rattle.plan.proofs.Accepting.{accepted-text, print-accepted, standard-roomy, text-short}
 use Rattle.plan.proofs.Plans.{cells-relabel, print-relabel, relabel-then}
 use Rattle.plan.proofs.ReadBack.{Accepted, read-accepted}
-use Rattle.plan.proofs.Refusals.{read-faultless}
-use Rattle.plan.proofs.Slots.{print-accepted, standard-roomy}
+use Rattle.plan.proofs.Refusals.{plan-faultless}
 use Rattle.stored.specs.Same.{same}
 use Rattle.words.specs.Linking.{Word, holds, in-place, link, stands-for}
 use Rattle.words.proofs.Linked.{allowed-link, link-unlisted}
@@ -31,28 +29,25 @@ use Rattle.linked.specs.Words.{HasPlan, linked-by}
 use Rattle.linked.proofs.Lists.{words-right}
 
 module _ {text : List ℕ} {p : Plan ℕ} (reads : HasPlan text p) where
-  -- with its own cells lent, or more, the text reads as its plan
-  with-room : (n : ℕ) → cells p ≤ n → read tokenLimit n text ≡ PLAN p
-  unfolding read fit
-  with-room n room = ap (fit n) (reads .reads) ∙ rw (le-leb (cells p) n room)
+  pub plan-found : read-text standard text ≡ PLAN p
+  plan-found = text-short standard text (reads .short) ∙ reads .reads
 
   pub reads-faultless : Faultless tokenLimit 0 text 0 (cells p)
-  reads-faultless = read-faultless tokenLimit (cells p) text (with-room (cells p) (omega arith)) .0
+  reads-faultless = plan-faultless tokenLimit text (reads .reads)
+
+  -- so many cells lent as it has, or more, accept it; and 4,096 do not, where it has more
+  pub reads-accepted : (n : ℕ) → cells p ≤ n → accept standard n text ≡ ACCEPTED p
+  reads-accepted n room = parts-accepted standard n text (reads .short) (reads .reads) room
+
+  pub reads-over : cellLimit < cells p → accept standard cellLimit text ≡ UNREAD (Overfull (place-of-item cellLimit p))
+  unfolding accept fit
+  reads-over over = rw (plan-found, lt-leb (cells p) cellLimit over)
 
   pub reads-known : Accepted tokenLimit (cells p) text p
-  reads-known = read-accepted tokenLimit (cells p) text (with-room (cells p) (omega arith))
-
-  -- so many cells lent, within their limit, accept it; and 4,096 do not, where it has more
-  pub reads-accepted : (n : ℕ) → cells p ≤ n → n ≤ cellLimit → accept standard n text ≡ PLAN p
-  reads-accepted n room lent = parts-accepted standard n text lent (reads .short) (reads .reads) room
-
-  pub reads-over : cellLimit < cells p → accept standard cellLimit text ≡ REFUSED (Overfull (place (getD (labels p) cellLimit 0)))
-  unfolding accept read fit
-  reads-over over =
-      rw (le-ltb textLimit (length text) (reads .short)) (ap (fit cellLimit) (reads .reads) ∙ rw (lt-leb (cells p) cellLimit over))
+  reads-known = read-accepted tokenLimit (cells p) text (accepted-text standard (cells p) text (reads-accepted (cells p) (omega arith)) .reads)
 
 -- an accepted text reads as the plan
-pub accepted-reads : (n : ℕ) {text : List ℕ} {p : Plan ℕ} → accept standard n text ≡ PLAN p → HasPlan text p
+pub accepted-reads : (n : ℕ) {text : List ℕ} {p : Plan ℕ} → accept standard n text ≡ ACCEPTED p → HasPlan text p
 accepted-reads n {text} e = let (short, is, few) = accepted-parts standard n text e in record { short = short; reads = is }
 
 -- a linked plan has names only for tokens
@@ -62,7 +57,7 @@ linked-allowed {ws = ws} {p} has reads =
 
 -- and its printed text, where it is not too big, reads back
 pub linked-back : {list text : List ℕ} {ws : List Word} {p : Plan ℕ} → HasWords list ws → HasPlan text p → (n : ℕ)
-    → cells (linked-by ws p) ≤ n → n ≤ cellLimit → accept standard n (print (linked-by ws p)) ≡ PLAN (placed 0 (linked-by ws p))
+    → cells (linked-by ws p) ≤ n → n ≤ cellLimit → accept standard n (print (linked-by ws p)) ≡ ACCEPTED (placed 0 (linked-by ws p))
 linked-back {ws = ws} {p} has reads n room lent = print-accepted standard standard-roomy n lent (linked-by ws p) (linked-allowed has reads) room
 
 -- by no words a plan stays as it is

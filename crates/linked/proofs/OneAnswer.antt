@@ -5,28 +5,26 @@ use mathlib.Core.Path.{_≡_, ap, ap₂, sym, _∙_}
 use mathlib.Core.Logic.{_⊎_, inl, inr}
 use mathlib.Core.List.{List, _++_}
 use lib.ListN.{drop, length, take-append-drop}
-use Rattle.plan.specs.declared.Numbers.{Numbers}
+use Rattle.numbers.specs.declared.Numbers.{Numbers}
 use Rattle.plan.specs.Plan.{Plan, print}
-use Rattle.words.specs.Answers.{link-numbers}
+use Rattle.plan.proofs.Outcomes.{wrote-once}
+use Rattle.words.specs.Answers.{link-family, link-numbers, link-refusal-numbers}
 use Rattle.words.specs.Linking.{Word}
 use Rattle.words.specs.declared.LinkAnswer.{LinkAnswer}
-use Rattle.words.specs.declared.LinkAnswer.the-variants.{Refused}
-use Rattle.words.specs.declared.LinkRefusal.{LinkRefusal}
 use Rattle.linking.specs.Calls.{Links}
-use Rattle.turnip.specs.Linking.{LinkAnswers}
-use Rattle.turnip.specs.Stored.{five}
+use Rattle.turnip.specs.Stored.{Answers, five}
+use Rattle.demands.specs.Words.{IsRefusal}
 use Rattle.linked.specs.Table.{AsAsked, LinkedAs, linked, refused}
 use Rattle.linked.specs.Words.{IsLinked, linked-by}
 use Rattle.linked.proofs.Cases.{call-linked, linked-as, linked-by-words}
-use Rattle.linked.proofs.Numbers.{same-refusal}
 use Rattle.linked.proofs.Refused.{every-link-answered, link-refused, linked-or-refused, refusal-changes-nothing}
 
 pub link-one-answer : {list text out : List ℕ} {r s : LinkAnswer} {a b : List ℕ} → Links list text out r a → Links list text out s b → (r ≡ s) × (a ≡ b)
-link-one-answer g h = (g .answer ∙ sym (h .answer), g .output ∙ sym (h .output))
+link-one-answer g h = wrote-once link-family (g .wrote) (h .wrote)
 
 -- Over the C interface, where the answer is told by five numbers in the caller's array, as well; they tell the answer (`same-answer`).
-pub link-stored-once : {list text out a b stored stored₂ : List ℕ} → LinkAnswers (λ r. Links list text out r a) stored
-    → LinkAnswers (λ r. Links list text out r b) stored₂ → (stored ≡ stored₂) × (a ≡ b)
+pub link-stored-once : {list text out a b stored stored₂ : List ℕ} → Answers (λ r. five (link-numbers r)) (λ r. Links list text out r a) stored
+    → Answers (λ r. five (link-numbers r)) (λ r. Links list text out r b) stored₂ → (stored ≡ stored₂) × (a ≡ b)
 link-stored-once g h =
     let same = link-one-answer (g .did) (h .did) in (g .told ∙ ap (λ r. five (link-numbers r)) (same .0) ∙ sym (h .told), same .1)
 
@@ -35,10 +33,9 @@ link-stored-once g h =
 pub link-as-asked : {list text out : List ℕ} {r : LinkAnswer} {out′ : List ℕ} → Links list text out r out′ → AsAsked list text out (link-numbers r) out′
 link-as-asked {list} {text} {out} {r} {out′} call = go (linked-or-refused call)
   where
-    go : IsLinked r ⊎ ((x : LinkRefusal) × (r ≡ Refused x)) → AsAsked list text out (link-numbers r) out′
+    go : IsLinked (link-numbers r) ⊎ IsRefusal link-refusal-numbers (link-numbers r) → AsAsked list text out (link-numbers r) out′
     go (inl h) = let (ws, p, has, reads) = linked-by-words call h in linked has reads (linked-as call has reads h)
-    go (inr (x, e)) =
-        refused (link-refused call x .1 (ap link-numbers e)) (ap link-numbers e) (refusal-changes-nothing call x e .3)
+    go (inr (x, e)) = refused (link-refused call x .1 e) e (refusal-changes-nothing call (x, e) .3)
 
 -- the text first and the other bytes as they were: that is all of the output
 all-left : {out : List ℕ} {ws : List Word} {p : Plan ℕ} {told : Numbers} {out′ : List ℕ} → LinkedAs out ws p told out′
@@ -55,8 +52,8 @@ one-as-asked {list} {text} {out} g h =
   where
     as-called : {r : LinkAnswer} {left : List ℕ} {m : Numbers} {a : List ℕ} → Links list text out r left → AsAsked list text out m a
         → (m ≡ link-numbers r) × (a ≡ left)
-    as-called {r} call (refused {x = x} row told same) =
-        let e = link-refused call x .0 row in (told ∙ sym e, same ∙ sym (refusal-changes-nothing call x (same-refusal r x e) .3))
+    as-called call (refused {x = x} row told same) =
+        let e = link-refused call x .0 row in (told ∙ sym e, same ∙ sym (refusal-changes-nothing call (x, e) .3))
     as-called call (linked has reads x) =
         let y = linked-as call has reads (call-linked call has reads (x .few) (x .fits)) in
         (x .numbers ∙ sym (y .numbers), all-left x ∙ sym (all-left y))

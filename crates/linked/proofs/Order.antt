@@ -9,18 +9,17 @@ use native.Mathlib.Omega.{arith}
 use borrow.Author.Tests.{leb-true}
 use lib.Dec.{leb}
 use lib.ListN.{length}
-use Rattle.kinds.specs.Limits.{cellLimit, tokenLimit}
+use Rattle.kinds.specs.Limits.{cellLimit, standard, tokenLimit}
 use Rattle.plan.specs.Pieces.{placed}
 use Rattle.plan.specs.Plan.{cells, close-brace, end, open-brace, print, token}
 use Rattle.plan.specs.Reading.{plan-of}
-use Rattle.plan.specs.Services.{standard}
 use Rattle.plan.specs.Token.{allowed, annotation}
 use Rattle.plan.proofs.Acceptable.{acceptable-plan}
 use Rattle.plan.proofs.Plans.{then-end}
-use Rattle.plan.proofs.Slots.{print-accepted, standard-roomy}
+use Rattle.plan.proofs.Accepting.{print-accepted, standard-roomy}
 use Rattle.plan.proofs.Tests.{and-true}
 use Rattle.plan.proofs.Tokens.{allowed-parts}
-use Rattle.words.specs.Answers.{LinkWritten, link-text, within, write-linked}
+use Rattle.words.specs.Answers.{within}
 use Rattle.words.specs.Linking.{Word, in-place, link, stands-for, stock-token}
 use Rattle.words.specs.Stock.{is-name}
 use Rattle.words.specs.declared.LinkAnswer.{LinkAnswer}
@@ -28,7 +27,7 @@ use Rattle.words.proofs.Listing.{Right, RightWord, right-word, stands-word}
 use Rattle.linking.specs.Calls.{Links}
 use Rattle.linked.specs.Lists.{HasWords}
 use Rattle.linked.specs.Words.{HasPlan, linked-by}
-use Rattle.linked.proofs.Cases.{by-linked-plan}
+use Rattle.linked.proofs.Cases.{by-linked-plan, same-calls}
 use Rattle.linked.proofs.Lists.{words-right}
 use Rattle.linked.proofs.Meanings.{accepted-reads}
 
@@ -82,9 +81,5 @@ module _ {list : List ℕ} (newer older : List Word) (w : Word) (has : HasWords 
   -- when it is linked by a list of just the words before it
   pub word-called : {before out : List ℕ} {r s : LinkAnswer} {a b : List ℕ} → HasWords before older
       → Links list (open-brace ∷ (stock-token w ++ close-brace ∷ [])) out r a → Links before (w .text) out s b → (r ≡ s) × (a ≡ b)
-  word-called {before} {out} earlier call own =
-      let same : link-text standard list (open-brace ∷ (stock-token w ++ close-brace ∷ [])) out ≡ link-text standard before (w .text) out =
-      by-linked-plan has token-reads out ∙ ap (λ q. write-linked (within standard q) out) token-linked ∙ sym (by-linked-plan earlier word-reads out) in (
-        call .answer ∙ ap (λ (x : LinkWritten). x .answer) same ∙ sym (own .answer),
-        call .output ∙ ap (λ (x : LinkWritten). x .output) same ∙ sym (own .output),
-      )
+  word-called earlier call own =
+      same-calls call own (by-linked-plan has token-reads ∙ ap (within standard) token-linked ∙ sym (by-linked-plan earlier word-reads))

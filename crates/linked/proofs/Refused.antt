@@ -6,51 +6,42 @@ use mathlib.Core.Logic.{_↔_, _⊎_, inl, inr}
 use mathlib.Core.List.{List}
 use native.Mathlib.Omega.{arith}
 use lib.ListN.{length}
-use Rattle.kinds.specs.Limits.{cellLimit}
+use Rattle.kinds.specs.Limits.{cellLimit, standard}
 use Rattle.plan.specs.declared.TextFault.{TextFault}
 use Rattle.plan.specs.Plan.{Plan, cells, print}
-use Rattle.plan.specs.Services.{standard}
+use Rattle.plan.proofs.Outcomes.{written}
 use Rattle.plan.proofs.Tests.{never}
-use Rattle.words.specs.Answers.{link-numbers, link-text}
+use Rattle.numbers.specs.declared.Numbers.{Numbers}
+use Rattle.numbers.specs.Numbers.{fault-numbers, outshort-numbers}
+use Rattle.numbers.proofs.Told.{fault-number-is}
+use Rattle.words.specs.Answers.{link-family, link-numbers, link-refusal-numbers, links}
 use Rattle.words.specs.Linking.{Word}
 use Rattle.words.specs.declared.LinkAnswer.{LinkAnswer}
 use Rattle.words.specs.declared.LinkAnswer.the-variants.{Refused}
 use Rattle.words.specs.declared.LinkRefusal.{LinkRefusal}
 use Rattle.words.specs.declared.LinkRefusal.the-variants.{BadWords, Text, Overfull, OutShort}
 use Rattle.linking.specs.Calls.{Links}
+use Rattle.demands.specs.Words.{IsRefusal}
 use Rattle.linked.specs.Lists.{BadList, HasWords}
-use Rattle.linked.specs.Table.{Faulty, LinkRefuses, row-17, row-18, row-26, rows-11-to-16}
-use Rattle.linked.specs.Words.{BADWORDS, IsLinked, HasPlan, linked-by, refusal}
-use Rattle.linked.proofs.Cases.{
-  LinkCase,
-  bad-list,
-  bad-text,
-  fault-or-plan,
-  is-linked,
-  link-case,
-  one-fault,
-  one-plan,
-  out-short,
-  over-full,
-}
+use Rattle.linked.specs.Table.{HasFault, LinkRefuses, row-17, row-18, row-26, rows-11-to-16}
+use Rattle.linked.specs.Words.{BADWORDS, IsLinked, HasPlan, linked-by}
+use Rattle.linked.proofs.Cases.{LinkCase, bad-list, bad-text, fault-or-plan, is-linked, link-case, one-fault, one-plan, out-short, over-full}
 use Rattle.linked.proofs.Lists.{not-both, one-rank, one-stock}
-use Rattle.demands.proofs.Numbers.{fault-number-is}
 use Rattle.linked.proofs.Numbers.{refusal-over, same-refusal}
 
 -- every call is answered: it links its text, or is refused
 pub every-link-answered : (list text out : List ℕ) → (r : LinkAnswer) × (out′ : List ℕ) × Links list text out r out′
-every-link-answered list text out =
-    (link-text standard list text out .answer, link-text standard list text out .output, record { answer = refl; output = refl })
+every-link-answered list text out = let (r, out′, did) = written link-family (links standard list text) out in (r, out′, record { wrote = did })
 
 pub linked-or-refused : {list text out : List ℕ} {r : LinkAnswer} {out′ : List ℕ} → Links list text out r out′
-    → IsLinked r ⊎ ((x : LinkRefusal) × (r ≡ Refused x))
+    → IsLinked (link-numbers r) ⊎ IsRefusal link-refusal-numbers (link-numbers r)
 linked-or-refused {list} {text} {out} call = go (link-case call)
   where
-    go : {r : LinkAnswer} {out′ : List ℕ} → LinkCase list text out r out′ → IsLinked r ⊎ ((x : LinkRefusal) × (r ≡ Refused x))
+    go : {r : LinkAnswer} {out′ : List ℕ} → LinkCase list text out r out′ → IsLinked (link-numbers r) ⊎ IsRefusal link-refusal-numbers (link-numbers r)
     go (bad-list {rank} bad) = inr (BadWords rank, refl)
     go (bad-text {f = f} has bad) = inr (Text f, refl)
     go (over-full has reads over) = inr (Overfull, refl)
-    go (out-short has reads few short) = inr (_, refl)
+    go (out-short {ws} {p} has reads few short) = inr (OutShort (length (print (linked-by ws p))), refl)
     go (is-linked has reads few fits) = inl refl
 
 -- what the words and the plan say of the linked plan
@@ -100,11 +91,11 @@ module _ {list text out : List ℕ} {r : LinkAnswer} {out′ : List ℕ} (call :
 
   -- "The refusals: 26 exactly when, with its place; 17 exactly when." Each refusal exactly when its row of the table says, with that
   -- row's number and place;
-  pub link-refused : (x : LinkRefusal) → LinkRefuses list text out x ↔ (link-numbers r ≡ refusal x)
+  pub link-refused : (x : LinkRefusal) → LinkRefuses list text out x ↔ (link-numbers r ≡ link-refusal-numbers x)
   link-refused x = (λ h. ap link-numbers (refused-so h), λ h. refused-why (same-refusal r x h))
 
   -- 26, with the least rank at fault, exactly when the list is not right;
-  pub badwords-exactly-when : (rank : ℕ) → BadList list rank ↔ (link-numbers r ≡ refusal (BadWords rank))
+  pub badwords-exactly-when : (rank : ℕ) → BadList list rank ↔ (link-numbers r ≡ link-refusal-numbers (BadWords rank))
   badwords-exactly-when rank = (λ bad. link-refused (BadWords rank) .0 (row-26 bad), λ h. go (link-refused (BadWords rank) .1 h) refl)
     where
       go : {x : LinkRefusal} → LinkRefuses list text out x → x ≡ BadWords rank → BadList list rank
@@ -126,18 +117,18 @@ module _ {list text out : List ℕ} {r : LinkAnswer} {out′ : List ℕ} (call :
       to (is-linked has reads few fits) e = absurd (omega arith)
 
   -- of a right list: a fault's number and place exactly when the text has that fault, however many cells it has,
-  pub fault-exactly-when : {ws : List Word} → HasWords list ws → (f : TextFault) → Faulty text f ↔ (link-numbers r ≡ refusal (Text f))
+  pub fault-exactly-when : {ws : List Word} → HasWords list ws → (f : TextFault) → HasFault text f ↔ (link-numbers r ≡ fault-numbers f)
   fault-exactly-when has f = (λ bad. link-refused (Text f) .0 (rows-11-to-16 has bad), λ h. go (link-refused (Text f) .1 h) refl)
     where
-      go : {x : LinkRefusal} → LinkRefuses list text out x → x ≡ Text f → Faulty text f
+      go : {x : LinkRefusal} → LinkRefuses list text out x → x ≡ Text f → HasFault text f
       go (row-26 bad) e = never cc
-      go (rows-11-to-16 {f = g} h bad) e = let is : g ≡ f = cc in subst (Faulty text) is bad
+      go (rows-11-to-16 {f = g} h bad) e = let is : g ≡ f = cc in subst (HasFault text) is bad
       go (row-17 h y over) e = never cc
       go (row-18 h y few short) e = never cc
 
   -- of a right list and a text that reads: 17, place 0, exactly when the linked plan has more than 4,096 cells,
   pub overfull-exactly-when : {ws : List Word} {p : Plan ℕ} → HasWords list ws → HasPlan text p
-      → (cellLimit < cells (linked-by ws p)) ↔ (link-numbers r ≡ refusal Overfull)
+      → (cellLimit < cells (linked-by ws p)) ↔ (link-numbers r ≡ link-refusal-numbers Overfull)
   overfull-exactly-when {ws} {p} has reads = (λ over. link-refused Overfull .0 (row-17 has reads over), λ h. go (link-refused Overfull .1 h) refl)
     where
       go : {x : LinkRefusal} → LinkRefuses list text out x → x ≡ Overfull → cellLimit < cells (linked-by ws p)
@@ -149,7 +140,7 @@ module _ {list text out : List ℕ} {r : LinkAnswer} {out′ : List ℕ} (call :
   -- 18, with the bytes needed, exactly when the linked plan fits its cells and its text not the output,
   pub outshort-exactly-when : {ws : List Word} {p : Plan ℕ} → HasWords list ws → HasPlan text p
       → ((cells (linked-by ws p) ≤ cellLimit) × (length out < length (print (linked-by ws p))))
-      ↔ (link-numbers r ≡ refusal (OutShort (length (print (linked-by ws p)))))
+      ↔ (link-numbers r ≡ outshort-numbers (length (print (linked-by ws p))))
   outshort-exactly-when {ws} {p} has reads =
       (λ (few, short). link-refused (OutShort needed) .0 (row-18 has reads few short), λ h. go (link-refused (OutShort needed) .1 h) refl)
     where
@@ -164,24 +155,26 @@ module _ {list text out : List ℕ} {r : LinkAnswer} {out′ : List ℕ} (call :
       go (row-18 h y few short) e = (omega (arith, same-cells has h reads y), omega (arith, same-length has h reads y))
 
   -- and READ exactly when no row says anything
-  pub linked-exactly-when : IsLinked r ↔ ((x : LinkRefusal) → LinkRefuses list text out x → ⊥)
-  linked-exactly-when = (λ h x row. apart h x (refused-so row), λ none. go (linked-or-refused call) none)
+  pub linked-exactly-when : IsLinked (link-numbers r) ↔ ((x : LinkRefusal) → LinkRefuses list text out x → ⊥)
+  linked-exactly-when = (
+    λ h x row. omega (arith, refusal-over x, ap (λ (v : Numbers). v .number) (link-refused x .0 row)),
+    λ none. go (linked-or-refused call) none,
+  )
     where
-      apart : {r : LinkAnswer} → IsLinked r → (x : LinkRefusal) → r ≡ Refused x → ⊥
-      apart h x e = omega (arith, refusal-over x, ap (λ (a : LinkAnswer). link-numbers a .number) e)
-
-      go : IsLinked r ⊎ ((x : LinkRefusal) × (r ≡ Refused x)) → ((x : LinkRefusal) → LinkRefuses list text out x → ⊥) → IsLinked r
+      go : IsLinked (link-numbers r) ⊎ IsRefusal link-refusal-numbers (link-numbers r) → ((x : LinkRefusal) → LinkRefuses list text out x → ⊥)
+          → IsLinked (link-numbers r)
       go (inl h) none = h
-      go (inr (x, e)) none = absurd (none x (refused-why e))
+      go (inr (x, e)) none = absurd (none x (link-refused x .1 e))
 
   -- a refusal reports no steps, no cells and no length, and every byte of the output is as it was
-  pub refusal-changes-nothing : (x : LinkRefusal) → r ≡ Refused x
+  pub refusal-changes-nothing : IsRefusal link-refusal-numbers (link-numbers r)
       → (link-numbers r .steps ≡ 0) × (link-numbers r .cells ≡ 0) × (link-numbers r .length ≡ 0) × (out′ ≡ out)
-  refusal-changes-nothing x e = rw e (refl, refl, refl, go (link-case call) e)
+  refusal-changes-nothing h = go (link-case call) h
     where
-      go : {r : LinkAnswer} {out′ : List ℕ} → LinkCase list text out r out′ → r ≡ Refused x → out′ ≡ out
-      go (bad-list bad) e = refl
-      go (bad-text has bad) e = refl
-      go (over-full has reads over) e = refl
-      go (out-short has reads few short) e = refl
-      go (is-linked has reads few fits) e = never cc
+      go : {r : LinkAnswer} {out′ : List ℕ} → LinkCase list text out r out′ → IsRefusal link-refusal-numbers (link-numbers r)
+          → (link-numbers r .steps ≡ 0) × (link-numbers r .cells ≡ 0) × (link-numbers r .length ≡ 0) × (out′ ≡ out)
+      go (bad-list bad) h = (refl, refl, refl, refl)
+      go (bad-text has bad) h = (refl, refl, refl, refl)
+      go (over-full has reads over) h = (refl, refl, refl, refl)
+      go (out-short has reads few short) h = (refl, refl, refl, refl)
+      go (is-linked has reads few fits) (x, h) = absurd (omega (arith, refusal-over x, ap (λ (v : Numbers). v .number) h))

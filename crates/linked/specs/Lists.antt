@@ -5,9 +5,9 @@ use mathlib.Core.Path.{_≡_}
 use mathlib.Core.Bool.{true, false}
 use mathlib.Core.List.{List, [], _∷_}
 use lib.ListN.{length}
-use Rattle.kinds.specs.Limits.{tokenLimit}
+use Rattle.kinds.specs.Limits.{standard, tokenLimit}
+use Rattle.plan.specs.Read.{acceptable}
 use Rattle.plan.specs.Reading.{plan-of}
-use Rattle.plan.specs.Services.{acceptable, standard}
 use Rattle.plan.specs.Token.{allowed}
 use Rattle.stored.specs.Counted.{CUT, FRONT, number}
 use Rattle.words.specs.Linking.{Word, holds, stock-token}

@@ -2,29 +2,30 @@
 use Prim.Native.Nat.{ℕ, _≤_, _<_}
 use mathlib.Core.Path.{_≡_}
 use mathlib.Core.List.{List}
-use lib.ListN.{length, drop, take}
+use lib.ListN.{length, drop}
 use Rattle.kinds.specs.Limits.{cellLimit, textLimit, tokenLimit}
-use Rattle.plan.specs.declared.Numbers.{Numbers}
-use Rattle.plan.specs.declared.Refusal.the-variants.{Text as BadText}
+use Rattle.numbers.specs.declared.Numbers.{Numbers}
+use Rattle.numbers.specs.Numbers.{given-numbers}
 use Rattle.plan.specs.declared.TextFault.{TextFault}
 use Rattle.plan.specs.declared.TextFault.the-variants.{TooLong}
 use Rattle.plan.specs.Plan.{Plan, cells, print}
-use Rattle.plan.specs.Refusals.{Row}
+use Rattle.plan.specs.Refusals.{Faulty}
+use Rattle.words.specs.Answers.{link-refusal-numbers}
 use Rattle.words.specs.Linking.{Word}
 use Rattle.words.specs.declared.LinkRefusal.{LinkRefusal}
 use Rattle.words.specs.declared.LinkRefusal.the-variants.{BadWords, Text, Overfull, OutShort}
-use Rattle.demands.specs.Words.{READ}
+use Rattle.demands.specs.Words.{saved}
 use Rattle.linked.specs.Lists.{BadList, HasWords}
-use Rattle.linked.specs.Words.{HasPlan, linked-by, refusal}
+use Rattle.linked.specs.Words.{HasPlan, linked-by}
 
--- the text's own faults, as they now stand: the rows 13 to 16, 21 to 25 for 14, do not look at the number of cells, so it may be any
-pub data Faulty (text : List ℕ) : TextFault → Type 0 where
-  row-11 : textLimit < length text → Faulty text TooLong
-  rows-13-to-16 : (n : ℕ) {f : TextFault} → length text ≤ textLimit → Row tokenLimit n text (BadText f) → Faulty text f
+-- the text's own faults, as they now stand: 21 to 25 for 14. How many cells it has does not matter
+pub data HasFault (text : List ℕ) : TextFault → Type 0 where
+  row-11 : textLimit < length text → HasFault text TooLong
+  rows-13-to-16 : {f : TextFault} → length text ≤ textLimit → Faulty tokenLimit text f → HasFault text f
 
 pub data LinkRefuses (list text out : List ℕ) : LinkRefusal → Type 0 where
   row-26 : {rank : ℕ} → BadList list rank → LinkRefuses list text out (BadWords rank)
-  rows-11-to-16 : {ws : List Word} {f : TextFault} → HasWords list ws → Faulty text f → LinkRefuses list text out (Text f)
+  rows-11-to-16 : {ws : List Word} {f : TextFault} → HasWords list ws → HasFault text f → LinkRefuses list text out (Text f)
   row-17 : {ws : List Word} {p : Plan ℕ} → HasWords list ws → HasPlan text p → cellLimit < cells (linked-by ws p)
       → LinkRefuses list text out Overfull
   row-18 : {ws : List Word} {p : Plan ℕ} → HasWords list ws → HasPlan text p → cells (linked-by ws p) ≤ cellLimit
@@ -35,12 +36,12 @@ pub data LinkRefuses (list text out : List ℕ) : LinkRefusal → Type 0 where
 pub record LinkedAs (out : List ℕ) (ws : List Word) (p : Plan ℕ) (told : Numbers) (out′ : List ℕ) : Type 0 where
   pub few : cells (linked-by ws p) ≤ cellLimit
   pub fits : length (print (linked-by ws p)) ≤ length out
-  pub numbers : told ≡ record { number = READ; steps = 0; cells = cells (linked-by ws p); length = length (print (linked-by ws p)); place = 0 }
-  pub first : take (told .length) out′ ≡ print (linked-by ws p)
+  pub numbers : told ≡ given-numbers (cells (linked-by ws p)) (length (print (linked-by ws p)))
+  pub first : saved told out′ ≡ print (linked-by ws p)
   pub untouched : drop (told .length) out′ ≡ drop (told .length) out
 
 -- the whole table as one statement about five numbers and the bytes that are left, whoever gives them: with it "no second answer" can be
 -- said of the request's own sentences, and not only of the contract
 pub data AsAsked (list text out : List ℕ) (told : Numbers) (out′ : List ℕ) : Type 0 where
-  refused : {x : LinkRefusal} → LinkRefuses list text out x → told ≡ refusal x → out′ ≡ out → AsAsked list text out told out′
+  refused : {x : LinkRefusal} → LinkRefuses list text out x → told ≡ link-refusal-numbers x → out′ ≡ out → AsAsked list text out told out′
   linked : {ws : List Word} {p : Plan ℕ} → HasWords list ws → HasPlan text p → LinkedAs out ws p told out′ → AsAsked list text out told out′

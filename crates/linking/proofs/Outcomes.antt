@@ -1,27 +1,27 @@
 -- What is answered is the outcome's answer: the list's fault, the text's, too many cells, too short an output, or the linked text.
 use Prim.Native.Nat.{ℕ, zero, suc, _≤_, _<_}
-use mathlib.Core.Path.{_≡_, refl, ap, ap₂, sym, subst, _∙_}
+use mathlib.Core.Path.{_≡_, ap, subst, _∙_}
 use mathlib.Core.Bool.{Bool, true, false, cond}
 use mathlib.Core.Option.{some}
 use mathlib.Core.List.{List}
 use native.Mathlib.Omega.{arith}
 use borrow.Author.Tests.{le-leb, lt-leb}
 use lib.ListN.{length, length-replicate, replicate}
-use Rattle.kinds.specs.Limits.{cellLimit, tokenLimit}
+use Rattle.kinds.specs.Limits.{cellLimit, standard, tokenLimit}
+use Rattle.plan.specs.Outcomes.{GIVES, Wrote}
 use Rattle.plan.specs.Plan.{Plan, cells, print}
-use Rattle.plan.specs.Reading.{PLAN, REFUSED, plan-of}
-use Rattle.plan.specs.Services.{standard}
+use Rattle.plan.specs.Reading.{FAULT, PLAN, plan-of, read-text}
 use Rattle.plan.specs.Token.{Allowed}
-use Rattle.plan.specs.declared.Refusal.the-variants.{Text as BadText}
 use Rattle.plan.specs.declared.TextFault.{TextFault}
+use Rattle.plan.proofs.Outcomes.{wrote-fits, wrote-refused, wrote-short}
 use Rattle.plan.proofs.Pieces.{shows-allowed}
 use Rattle.plan.proofs.ReadBack.{print-bound}
 use Rattle.pieces.specs.Written.{put-at}
 use Rattle.pieces.proofs.Putting.{put-front}
 use Rattle.stored.specs.Same.{same}
-use Rattle.words.specs.Answers.{GIVES, link-by, link-read, link-text, links, read-text, within, write-linked}
+use Rattle.words.specs.Answers.{link-by, link-family, link-read, links, within}
 use Rattle.words.specs.Linking.{link, stands-for, stock-token}
-use Rattle.words.specs.Stock.{FAULT, WORDS, stock}
+use Rattle.words.specs.Stock.{FAULT as LIST-FAULT, WORDS, stock}
 use Rattle.words.specs.declared.LinkAnswer.{LinkAnswer}
 use Rattle.words.specs.declared.LinkAnswer.the-variants.{Linked, Refused}
 use Rattle.words.specs.declared.LinkRefusal.the-variants.{BadWords, Text, Overfull, OutShort}
@@ -36,7 +36,8 @@ use Rattle.vetting.specs.Vetting.{VettedShelved, vetted-told}
 use Rattle.vetting.specs.declared.Vetted.{Vetted}
 use Rattle.vetting.specs.declared.Vetted.the-variants.{Bad, Words}
 use Rattle.linking.specs.Calls.{Links}
-use Rattle.linking.specs.Parts.{LinkWrites, WordsKnown}
+use Rattle.linking.specs.Parts.{WordsKnown}
+use Rattle.linking.proofs.TextReads.{reads-plan}
 
 -- a text that reads has allowed tokens, and so has what it links to
 readable-allowed : {text : List ℕ} → Readable text → Allowed tokenLimit (plan-of tokenLimit text)
@@ -79,11 +80,10 @@ module _ {list starts : List ℕ} {count : ℕ} (s : WordsKnown list starts coun
 
   module _ {w : Weight} (weighs : w ≡ weight (linked-text list starts count text)) where
     -- past the limit
-    pub link-overfull : (out : List ℕ) → cellLimit < w .cells → LinkWrites (within standard (linked-text list starts count text)) out (Refused Overfull) out
-    unfolding weight within write-linked
+    pub link-overfull : (out : List ℕ) → cellLimit < w .cells → Wrote link-family (within standard (linked-text list starts count text)) out (Refused Overfull) out
+    unfolding weight within
     link-overfull out h =
-        let over : cellLimit < cells (linked-text list starts count text) = omega (arith, ap (λ (x : Weight). x .cells) weighs) in
-        record { answer = rw (lt-leb (cells (linked-text list starts count text)) cellLimit over) refl; output = rw (lt-leb (cells (linked-text list starts count text)) cellLimit over) refl }
+        wrote-refused link-family out (rw (lt-leb (cells (linked-text list starts count text)) cellLimit (omega (arith, ap (λ (x : Weight). x .cells) weighs))))
 
     module _ (h : w .cells ≤ cellLimit) where
       cells-are : w .cells ≡ cells (linked-text list starts count text)
@@ -98,15 +98,12 @@ module _ {list starts : List ℕ} {count : ℕ} (s : WordsKnown list starts coun
       unfolding weight
       length-is = omega (arith, ap (λ (x : Weight). x .length) weighs, printed-small)
 
-      gives : within standard (linked-text list starts count text) ≡ GIVES (linked-text list starts count text)
+      gives : within standard (linked-text list starts count text) ≡ GIVES tt (w .cells) (print (linked-text list starts count text))
       unfolding within
-      gives = rw (le-leb (cells (linked-text list starts count text)) cellLimit (omega (arith, cells-are))) refl
+      gives = rw (le-leb (cells (linked-text list starts count text)) cellLimit (omega (arith, cells-are)), cells-are)
 
-      pub link-short : (out : List ℕ) → length out < w .length → LinkWrites (within standard (linked-text list starts count text)) out (Refused (OutShort (w .length))) out
-      unfolding write-linked
-      link-short out l =
-          let test = lt-leb (length (print (linked-text list starts count text))) (length out) (omega (arith, length-is)) in
-          record { answer = rw (gives, test) (ap (λ n. Refused (OutShort n)) length-is); output = rw (gives, test) refl }
+      pub link-short : (out : List ℕ) → length out < w .length → Wrote link-family (within standard (linked-text list starts count text)) out (Refused (OutShort (w .length))) out
+      link-short out l = rw length-is (wrote-short link-family out gives (omega (arith, length-is)))
 
       module _ (out : List ℕ) (room : w .length ≤ length out) where
         pub writable : (weights : List ℕ) → WeightsKnown list starts weights → length weights ≡ 512 → Writable list starts text count weights (replicate 512 0) out 0
@@ -126,42 +123,41 @@ module _ {list starts : List ℕ} {count : ℕ} (s : WordsKnown list starts coun
             }
 
         pub link-written : (out′ : List ℕ) → out′ ≡ put-at out 0 (print (linked-text list starts count text))
-            → LinkWrites (within standard (linked-text list starts count text)) out (Linked (w .cells) (w .length)) out′
-        unfolding write-linked
+            → Wrote link-family (within standard (linked-text list starts count text)) out (Linked (w .cells) (w .length)) out′
         link-written out′ e =
-            let test = le-leb (length (print (linked-text list starts count text))) (length out) (omega (arith, length-is)) in
+            let fits = wrote-fits link-family out gives (omega (arith, length-is)) in
             record {
-              answer = rw (gives, test) (ap₂ Linked cells-are length-is);
-              output = rw (gives, test) (e ∙ put-front (print (linked-text list starts count text)) out);
+              answer = ap (Linked (w .cells)) length-is ∙ fits .answer;
+              output = e ∙ put-front (print (linked-text list starts count text)) out ∙ fits .output;
             }
 
 -- a text with a fault, and one that reads
 module _ (list starts : List ℕ) (count : ℕ) (text out : List ℕ) where
-  pub fault-written : {f : TextFault} → read-text standard text ≡ REFUSED (BadText f)
-      → LinkWrites (link-read standard (words-to list starts count) (read-text standard text)) out (Refused (Text f)) out
-  unfolding link-read write-linked
-  fault-written e = record { answer = rw e refl; output = rw e refl }
+  pub fault-written : {f : TextFault} → read-text standard text ≡ FAULT f
+      → Wrote link-family (link-read standard (words-to list starts count) (read-text standard text)) out (Refused (Text f)) out
+  unfolding link-read
+  fault-written e = wrote-refused link-family out (rw e)
 
-  pub fine-written : {r : LinkAnswer} {out′ : List ℕ} → read-text standard text ≡ PLAN (plan-of tokenLimit text)
-      → LinkWrites (within standard (linked-text list starts count text)) out r out′
-      → LinkWrites (link-read standard (words-to list starts count) (read-text standard text)) out r out′
+  pub fine-written : {p : Plan ℕ} {r : LinkAnswer} {out′ : List ℕ} → read-text standard text ≡ PLAN p
+      → Wrote link-family (within standard (linked-text list starts count text)) out r out′
+      → Wrote link-family (link-read standard (words-to list starts count) (read-text standard text)) out r out′
   unfolding link-read linked-text
-  fine-written {r} {out′} e w = subst (λ x. LinkWrites (link-read standard (words-to list starts count) x) out r out′) (sym e) w
+  fine-written e w = rw (reads-plan text e) w
 
 -- a list with a fault, and one that is right
 module _ (list text out : List ℕ) where
-  pub list-bad : {rank : ℕ} → stock standard list ≡ FAULT rank → Links list text out (Refused (BadWords rank)) out
-  unfolding link-text links link-by write-linked
-  list-bad e = record { answer = rw e refl; output = rw e refl }
+  pub list-bad : {rank : ℕ} → stock standard list ≡ LIST-FAULT rank → Links list text out (Refused (BadWords rank)) out
+  unfolding links link-by
+  list-bad e = record { wrote = wrote-refused link-family out (rw e) }
 
   pub list-right : (starts : List ℕ) (count : ℕ) {r : LinkAnswer} {out′ : List ℕ} → stock standard list ≡ WORDS (words-to list starts count)
-      → LinkWrites (link-read standard (words-to list starts count) (read-text standard text)) out r out′ → Links list text out r out′
-  unfolding link-text links link-by
-  list-right starts count e w = record { answer = rw e (w .answer); output = rw e (w .output) }
+      → Wrote link-family (link-read standard (words-to list starts count) (read-text standard text)) out r out′ → Links list text out r out′
+  unfolding links link-by
+  list-right starts count e w = record { wrote = rw e w }
 
 -- what the judge said of the list
 module _ (list starts : List ℕ) {j : Vetted} where
-  pub vetted-bad : {rank : ℕ} → stock standard list ≡ vetted-told list starts j → j ≡ Bad rank → stock standard list ≡ FAULT rank
+  pub vetted-bad : {rank : ℕ} → stock standard list ≡ vetted-told list starts j → j ≡ Bad rank → stock standard list ≡ LIST-FAULT rank
   vetted-bad told e = told ∙ ap (vetted-told list starts) e
 
   pub vetted-right : {count : ℕ} → stock standard list ≡ vetted-told list starts j → j ≡ Words count → stock standard list ≡ WORDS (words-to list starts count)

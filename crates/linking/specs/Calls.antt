@@ -1,11 +1,10 @@
 -- What a call of linking did: the contract says this and no more. First stand the inputs, then the answer and what the call left.
 use Prim.Native.Nat.{ℕ}
-use mathlib.Core.Path.{_≡_}
 use mathlib.Core.List.{List}
-use Rattle.plan.specs.Services.{standard}
-use Rattle.words.specs.Answers.{link-text}
+use Rattle.kinds.specs.Limits.{standard}
+use Rattle.plan.specs.Outcomes.{Wrote}
+use Rattle.words.specs.Answers.{link-family, links}
 use Rattle.words.specs.declared.LinkAnswer.{LinkAnswer}
 
 pub record Links (list text out : List ℕ) (r : LinkAnswer) (out′ : List ℕ) : Type 0 where
-  pub answer : r ≡ link-text standard list text out .answer
-  pub output : out′ ≡ link-text standard list text out .output
+  pub wrote : Wrote link-family (links standard list text) out r out′

@@ -1,18 +1,17 @@
 // Linking, a service of request 6: the words of a list are put where a text's tokens name them. It is public, asks nothing of its caller,
 // and its contract says for every input what the call answers and leaves (specs/Calls.antt). What it has to remember, a few numbers for
 // each word, stands on the stack.
-ghost use Rattle.plan.specs.Services.{standard};
-ghost use Rattle.words.specs.Answers.{link-read, read-text, within};
+ghost use Rattle.kinds.specs.Limits.{standard};
+ghost use Rattle.plan.specs.Outcomes.{Wrote};
+ghost use Rattle.plan.specs.Reading.{read-text};
+ghost use Rattle.words.specs.Answers.{link-family, link-read, within};
 ghost use Rattle.shelf.specs.Shelf.{Readable, linked-text, words-to};
 ghost use Rattle.linking.specs.Calls.{Links};
-ghost use Rattle.linking.specs.Parts.{LinkWrites, WordsKnown, ReadOverTells};
+ghost use Rattle.linking.specs.Parts.{WordsKnown};
 use kinds::Cell;
-use kinds::Place;
 use measuring::weigh;
-use plan::Refusal;
-use plan::TextFault;
+use read::look_over;
 use reader::Surveyed;
-use reader::survey;
 use splicing::write;
 use vetting::Vetted;
 use vetting::judge;
@@ -25,30 +24,6 @@ const STARTS: usize = MOST as usize;
 
 const NOTES: usize = 2 * STARTS;
 
-// What a text is found to be, however many cells it has.
-pub enum ReadOver {
-    Fine,
-    Fault(TextFault),
-}
-
-// A text within its limit has no more cells than bytes, so no item is past this room.
-fn read_over(text: &[u8]) -> ReadOver
-    ensures { λ r. ⌜ ReadOverTells (now (text .entry)) r ⌝ }
-{
-    if Place::LIMIT < text.len() {
-        return ReadOver::Fault(TextFault::TooLong);
-    }
-    match survey(text, Place::LIMIT as u32) {
-        Surveyed::Accepted { cells, length } => ReadOver::Fine,
-        Surveyed::Refused(refusal) => match refusal {
-            Refusal::Text(fault) => ReadOver::Fault(fault),
-            Refusal::BadArena => ReadOver::Fine,
-            Refusal::Overfull(past) => ReadOver::Fine,
-            Refusal::OutShort(needed) => ReadOver::Fine,
-        },
-    }
-}
-
 // Links a text that reads: it is weighed first, so that nothing is written unless all of it is.
 fn link_readable(
     list: &[u8],
@@ -58,7 +33,7 @@ fn link_readable(
     output: &mut [u8],
 ) -> LinkAnswer
     requires { ⌜ WordsKnown (now list) (now starts) count × Readable (now text) ⌝ }
-    ensures { λ r. ⌜ LinkWrites (within standard (linked-text (now (list .entry)) (now (starts .entry)) count (now (text .entry)))) (now (output .entry)) r (now (output .exit)) ⌝ }
+    ensures { λ r. ⌜ Wrote link-family (within standard (linked-text (now (list .entry)) (now (starts .entry)) count (now (text .entry)))) (now (output .entry)) r (now (output .exit)) ⌝ }
 {
     let mut weights = [0u32; NOTES];
     let weight = weigh(list, starts, text, count, &mut weights);
@@ -79,11 +54,16 @@ fn link_readable(
 // Links a text by the words of a list that is right.
 fn link_by(list: &[u8], starts: &[u32], count: u32, text: &[u8], output: &mut [u8]) -> LinkAnswer
     requires { ⌜ WordsKnown (now list) (now starts) count ⌝ }
-    ensures { λ r. ⌜ LinkWrites (link-read standard (words-to (now (list .entry)) (now (starts .entry)) count) (read-text standard (now (text .entry)))) (now (output .entry)) r (now (output .exit)) ⌝ }
+    ensures { λ r. ⌜ Wrote link-family (link-read standard (words-to (now (list .entry)) (now (starts .entry)) count) (read-text standard (now (text .entry)))) (now (output .entry)) r (now (output .exit)) ⌝ }
 {
-    match read_over(text) {
-        ReadOver::Fault(fault) => LinkAnswer::Refused(LinkRefusal::Text(fault)),
-        ReadOver::Fine => link_readable(list, starts, count, text, output),
+    // Without room every item is past it: how many there are does not matter before the text is linked.
+    match look_over(text, 0) {
+        Surveyed::Faulty(fault) => LinkAnswer::Refused(LinkRefusal::Text(fault)),
+        Surveyed::Counted {
+            cells,
+            length,
+            past,
+        } => link_readable(list, starts, count, text, output),
     }
 }
 

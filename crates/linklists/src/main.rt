@@ -12,11 +12,12 @@ use building::grow;
 use building::no_words;
 use lending::fill_output;
 use lending::untouched;
-use plan::Numbers;
+use numbers::Numbers;
 use telling::mind;
 use telling::say;
 use telling::say_count;
 use telling::tell_five;
+use words::of_link;
 
 // More than any of these lists has, and than any of these texts links to.
 const LIST: usize = 8192;
@@ -31,8 +32,7 @@ fn link_filled(list: &[u8], text: &[u8], output: &mut [u8]) -> Numbers
     ensures { λ r. ⌜ r .length ≤ length (now (output .exit)) ⌝ }
 {
     fill_output(output);
-    let answer = linking::link(list, text, output);
-    answer.numbers()
+    of_link(linking::link(list, text, output))
 }
 
 fn tell_printed(output: &[u8], bytes: usize)

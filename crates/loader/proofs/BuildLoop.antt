@@ -8,9 +8,9 @@ use Rattle.kinds.specs.Limits.{textLimit, tokenLimit}
 use Rattle.kinds.specs.declared.Cell.{Cell}
 use Rattle.plan.specs.Plan.{Plan, bare}
 use Rattle.plan.specs.Pieces.{pieces}
-use Rattle.plan.specs.Reading.{PLAN, read}
+use Rattle.plan.specs.Reading.{ACCEPTED, read}
 use Rattle.plan.proofs.ReadBack.{read-accepted}
-use Rattle.plan.proofs.Refusals.{plan-injective}
+use Rattle.plan.proofs.Refusals.{accepted-injective}
 use Rattle.pieces.specs.declared.Piece.{Piece as CodePiece}
 use Rattle.items.specs.Walk.{ShowsAhead, Passed}
 use Rattle.memory.specs.Held.{HeldAlike}
@@ -25,7 +25,7 @@ use Rattle.memory.proofs.Whole.{aside-on, aside-same}
 
 pub record Onward (text m₀ : List ℕ) (b₀ : Build) (m : List ℕ) (b : Build) (at : ℕ) : Type 0 where
   pub plan : Plan ℕ
-  pub accepted : read tokenLimit (b .outer .0) text ≡ PLAN plan
+  pub accepted : read tokenLimit (b .outer .0) text ≡ ACCEPTED plan
   pub ahead : ShowsAhead text at
   pub lent : Lent (b .outer .0) m
   pub same : b .outer ≡ b₀ .outer
@@ -34,7 +34,7 @@ pub record Onward (text m₀ : List ℕ) (b₀ : Build) (m : List ℕ) (b : Buil
 
 -- before the first piece
 pub onward-start : {m : List ℕ} (text : List ℕ) {outer : Cell} {b : Build} {p : Plan ℕ} → Fresh outer m b → length text ≤ textLimit
-    → read tokenLimit (outer .0) text ≡ PLAN p → Onward text m b m b 0
+    → read tokenLimit (outer .0) text ≡ ACCEPTED p → Onward text m b m b 0
 onward-start text {p = p} f short accepted =
     record {
       plan = p;
@@ -78,10 +78,10 @@ module _ {text m₀ : List ℕ} {b₀ : Build} {m : List ℕ} {b : Build} {at : 
 
   -- behind the last piece
   module _ {m′ : List ℕ} {h : Held} (f : Finished m b m′ h) where
-    pub onward-end : o .ahead .come ≡ [] → (p : Plan ℕ) → read tokenLimit (b .outer .0) text ≡ PLAN p → HeldAlike text m′ h p
+    pub onward-end : o .ahead .come ≡ [] → (p : Plan ℕ) → read tokenLimit (b .outer .0) text ≡ ACCEPTED p → HeldAlike text m′ h p
     onward-end none p accepted =
         let held = place-end (o .plan) (subst (Placed text (b .outer .0) (b .outer .0) [] (o .plan) (model m b)) none (o .placed)) in
-        let same : o .plan ≡ p = plan-injective (sym (o .accepted) ∙ accepted) in
+        let same : o .plan ≡ p = accepted-injective (sym (o .accepted) ∙ accepted) in
         record { plan = held .0; alike = held .1 ∙ ap bare same; held = rw (f .outer, f .free, f .ends) (finish (held .2)) }
 
     pub onward-aside : {outer : Cell} → b₀ .outer ≡ outer → Aside (outer .0) m₀ m′

@@ -4,7 +4,7 @@ ghost use Prim.Native.Nat.{ℕ, _≤_};
 ghost use lib.ListN.{length};
 ghost use Rattle.kinds.specs.Limits.{textLimit, tokenLimit};
 ghost use Rattle.plan.specs.Plan.{Plan};
-ghost use Rattle.plan.specs.Reading.{PLAN, read};
+ghost use Rattle.plan.specs.Reading.{ACCEPTED, read};
 ghost use Rattle.memory.specs.Held.{HeldAlike};
 ghost use Rattle.memory.specs.Model.{Lent, Aside};
 use builder::finish;
@@ -18,8 +18,8 @@ use memory::Held;
 
 // The plan of the text, in the cells of the memory.
 pub fn build_plan(text: &[u8], memory: &mut [u32], outer: Cell) -> Held
-    requires { ⌜ Lent (outer .0) (now memory) × (length (now text) ≤ textLimit) × ((p : Plan ℕ) × (read tokenLimit (outer .0) (now text) ≡ PLAN p)) ⌝ }
-    ensures holds { λ r. ⌜ ((p : Plan ℕ) → read tokenLimit (outer .0) (now (text .entry)) ≡ PLAN p → HeldAlike (now (text .entry)) (now (memory .exit)) r p) ⌝ }
+    requires { ⌜ Lent (outer .0) (now memory) × (length (now text) ≤ textLimit) × ((p : Plan ℕ) × (read tokenLimit (outer .0) (now text) ≡ ACCEPTED p)) ⌝ }
+    ensures holds { λ r. ⌜ ((p : Plan ℕ) → read tokenLimit (outer .0) (now (text .entry)) ≡ ACCEPTED p → HeldAlike (now (text .entry)) (now (memory .exit)) r p) ⌝ }
     ensures same_cells { λ r. ⌜ r .outer ≡ outer ⌝ }
     ensures aside { λ r. ⌜ Aside (outer .0) (now (memory .entry)) (now (memory .exit)) ⌝ }
 {

@@ -37,7 +37,7 @@ weight-of ps = weighing (length (starts ps)) (length (in-a-row ps))
 unfoldable pub plus : Weight → Weight → Weight
 plus a b = weighing (a .cells + b .cells) (a .length + b .length)
 
--- a piece of the code begins an item, but for a `]`
+-- a piece of the code begins an item, except a `]`
 abbrev pub piece-cells : CodePiece → ℕ
 piece-cells (Operator o) = 1
 piece-cells (Token k) = 1

@@ -64,7 +64,7 @@ fn plus(a: Weight, b: Weight) -> Weight
     }
 }
 
-// A piece begins an item, but for a `]`.
+// A piece begins an item, except a `]`.
 fn cells_of(piece: Piece) -> u32
     ensures { λ r. ⌜ r ≡ piece-cells piece ⌝ }
 {

@@ -10,40 +10,15 @@ use lib.ListN.{length, set, length-set}
 use lib.Seq.{getD-set-same, getD-set-other}
 use Rattle.kinds.specs.Limits.{cellNumbers}
 use Rattle.plan.specs.Plan.{Plan, end, operator, token, block, _then_, labels}
-use Rattle.plan.specs.Numbered.{operator-number}
+use Rattle.pieces.specs.Numbered.{operator-number}
 use Rattle.plan.specs.declared.Operator.{Operator}
 use Rattle.plan.specs.Reading.{Around, outermost, inside}
 use Rattle.plan.specs.Pieces.{seen}
 use Rattle.plan.proofs.Pieces.{seen-then}
 use Rattle.pieces.specs.Written.{TokenAt}
 use Rattle.memory.specs.Memory.{start, close, datum, link, token-kind, block-kind, ports, Linked, Says, Free, Below, Absent, Distinct, Shared, Holds, HoldsIn, innermost, KeepsOuter, ports-so-far, SaysSoFar, last-of, Building}
-use Rattle.memory.proofs.Lists.{
-  absent-join,
-  absent-split,
-  below-split,
-  below-absent,
-  distinct-split,
-  not-before,
-  not-behind,
-  last-append,
-  last-in,
-  linked-beside,
-  linked-on,
-}
-use Rattle.memory.proofs.Ports.{
-  so-far-then,
-  so-far-says-then,
-  so-far-absent,
-  so-far-distinct,
-  close-absent,
-  so-far-says-beside,
-  keeps-beside,
-  Loose,
-  start-loose,
-  last-loose,
-  so-far-says-link,
-  keeps-link,
-}
+use Rattle.memory.proofs.Lists.{absent-join, absent-split, below-split, below-absent, distinct-split, not-before, not-behind, last-append, last-in, linked-beside, linked-on}
+use Rattle.memory.proofs.Ports.{so-far-then, so-far-says-then, so-far-absent, so-far-distinct, close-absent, so-far-says-beside, keeps-beside, Loose, start-loose, last-loose, so-far-says-link, keeps-link}
 use Rattle.memory.proofs.Sharing.{room-free, none-free, shared-beside, shared-distinct, shared-used, shared-take, free-absent}
 
 -- the start: every cell is free, in order

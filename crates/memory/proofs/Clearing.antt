@@ -7,7 +7,7 @@ use native.Mathlib.Omega.{arith}
 use borrow.Author.Fill.{fill-more}
 use lib.ListN.{length, drop, set, replicate, length-set}
 use lib.Seq.{drop-length}
-use Rattle.plan.specs.Services.{cleared}
+use Rattle.plan.specs.Outcomes.{cleared}
 
 -- at the head of the loop
 pub record Clearing (m₀ m : List ℕ) (at : ℕ) : Type 0 where

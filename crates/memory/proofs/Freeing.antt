@@ -7,17 +7,7 @@ use native.Mathlib.Omega.{arith}
 use lib.ListN.{length, set, length-append, length-set}
 use lib.Seq.{getD-set-same}
 use Rattle.memory.specs.Memory.{start, Below, Absent, Distinct, Shared}
-use Rattle.memory.proofs.Lists.{
-  absent-join,
-  absent-split,
-  below-join,
-  below-split,
-  distinct-join,
-  distinct-split,
-  not-before,
-  not-behind,
-  free-beside,
-}
+use Rattle.memory.proofs.Lists.{absent-join, absent-split, below-join, below-split, distinct-join, distinct-split, not-before, not-behind, free-beside}
 
 -- two neighbouring runs change places
 

@@ -10,7 +10,7 @@ use lib.ListN.{set}
 use lib.Seq.{getD-set-other}
 use Rattle.kinds.specs.Limits.{cellNumbers}
 use Rattle.plan.specs.Plan.{Plan, end, operator, token, block, _then_, labels}
-use Rattle.plan.specs.Numbered.{operator-number}
+use Rattle.pieces.specs.Numbered.{operator-number}
 use Rattle.plan.specs.declared.Operator.{Operator}
 use Rattle.plan.specs.declared.Operator.the-variants.{A as op-a, B as op-b, C as op-c, D as op-d}
 use Rattle.plan.specs.Reading.{Around, outermost, inside}

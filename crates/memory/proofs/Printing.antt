@@ -5,7 +5,7 @@ use mathlib.Core.List.{List, [], _∷_, _++_}
 use native.Mathlib.Omega.{arith}
 use lib.ListN.{length, length-append}
 use Rattle.plan.specs.Plan.{Plan, end, operator, token, block, cells, print}
-use Rattle.plan.specs.Numbered.{operator-number}
+use Rattle.pieces.specs.Numbered.{operator-number}
 use Rattle.plan.specs.Pieces.{Piece as PlanPiece, OP, TOKEN, BEGIN, END, in-a-row, pieces}
 use Rattle.plan.specs.declared.Operator.{Operator}
 use Rattle.plan.proofs.Pieces.{print-pieces}

@@ -11,7 +11,7 @@ use lib.ListN.{length, getD, take}
 use Rattle.kinds.specs.Limits.{cellNumbers}
 use Rattle.kinds.specs.declared.Token.{Token}
 use Rattle.plan.specs.Plan.{Plan, end, operator, token, block, labels}
-use Rattle.plan.specs.Numbered.{operator-number}
+use Rattle.pieces.specs.Numbered.{operator-number}
 use Rattle.plan.specs.Reading.{Around, outermost, inside, place}
 use Rattle.plan.specs.Pieces.{seen}
 use Rattle.pieces.specs.Written.{TokenAt}

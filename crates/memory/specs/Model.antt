@@ -7,7 +7,7 @@ use lib.ListN.{length, set, drop}
 use Rattle.kinds.specs.Limits.{cellLimit, cellNumbers}
 use Rattle.kinds.specs.declared.Cell.{Cell}
 use Rattle.plan.specs.Plan.{Plan}
-use Rattle.plan.specs.Numbered.{operator-number}
+use Rattle.pieces.specs.Numbered.{operator-number}
 use Rattle.pieces.specs.declared.Piece.{Piece}
 use Rattle.pieces.specs.declared.Piece.the-variants.{Operator, Token, Open, Close}
 use Rattle.plan.specs.Reading.{Around}

@@ -3,7 +3,7 @@
 use Prim.Native.Nat.{ℕ}
 use mathlib.Core.Bool.{cond}
 use lib.Dec.{eqb}
-use Rattle.plan.specs.Numbered.{operator-number, operator-of}
+use Rattle.pieces.specs.Numbered.{operator-number, operator-of}
 use Rattle.memory.specs.declared.Kind.{Kind}
 use Rattle.memory.specs.declared.Kind.the-variants.{Operator as OPERATOR, Token as TOKEN, Block as BLOCK}
 use Rattle.memory.specs.Memory.{token-kind, block-kind}

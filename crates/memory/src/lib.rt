@@ -5,13 +5,15 @@ ghost use Prim.Native.Nat.{ℕ, _+_, _*_, _/_, _%_, _<_, _≤_};
 ghost use lib.Dec.{eqb};
 ghost use lib.ListN.{length, set};
 ghost use Rattle.kinds.specs.Limits.{cellLimit, cellNumbers};
-ghost use Rattle.plan.specs.Services.{cleared};
+ghost use Rattle.plan.specs.Outcomes.{cleared};
 ghost use Rattle.memory.specs.Memory.{start, close, datum, link, whole, token-at};
 ghost use Rattle.memory.specs.Numbered.{kind-number, kind-of};
 ghost use Rattle.memory.specs.Model.{Lent, Aside};
 use kinds::Cell;
 use kinds::Place;
 use kinds::Token;
+use pieces::operator_number;
+use pieces::operator_of;
 use plan::Operator;
 
 mod print;
@@ -64,7 +66,7 @@ impl Kind {
         ensures { λ r. ⌜ r ≡ kind-number self ⌝ }
     {
         match self {
-            Kind::Operator(which) => which.number(),
+            Kind::Operator(which) => operator_number(which),
             Kind::Token => 4,
             Kind::Block => 5,
         }
@@ -76,7 +78,7 @@ impl Kind {
         match number {
             4 => Kind::Token,
             5 => Kind::Block,
-            _ => Kind::Operator(Operator::of(number)),
+            _ => Kind::Operator(operator_of(number)),
         }
     }
 }

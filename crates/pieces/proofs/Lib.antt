@@ -1,3 +1,4 @@
 pub mod Copying
+pub mod Numbered
 pub mod Pieces
 pub mod Putting

@@ -7,6 +7,13 @@ ghost use Rattle.pieces.specs.Written.{piece-length, piece-bytes, put-at
 use kinds::Token;
 use plan::Operator;
 
+mod numbering;
+
+pub use numbering::class_of_number;
+pub use numbering::letter;
+pub use numbering::operator_number;
+pub use numbering::operator_of;
+
 pub enum Piece {
     Operator(Operator),
     Token(Token),
@@ -48,7 +55,7 @@ pub fn put_piece(text: &[u8], piece: Piece, out: &mut [u8], put: usize)
     ensures { λ r. ⌜ now (out .exit) ≡ put-at (now (out .entry)) put (piece-bytes (now (text .entry)) piece) ⌝ }
 {
     match piece {
-        Piece::Operator(operator) => out[put] = operator.letter(),
+        Piece::Operator(operator) => out[put] = letter(operator),
         Piece::Token(token) => copy_token(text, token, out, put),
         Piece::Open => out[put] = b'[',
         Piece::Close => out[put] = b']',

@@ -1,5 +1,5 @@
--- Annotations mean nothing: no printed text holds one, and a text from which its marks are taken out reads and runs as it did.
-use Prim.Native.Nat.{ℕ, suc, _<_}
+-- Annotations mean nothing: no printed text holds one, and a text from which its marks are taken out reads as it did.
+use Prim.Native.Nat.{ℕ, suc, _<_, _≤_}
 use mathlib.Core.Path.{_≡_, refl, ap, sym, _∙_, subst}
 use mathlib.Core.Bool.{true, false}
 use mathlib.Core.Logic.{_≢_}
@@ -8,12 +8,13 @@ use native.Mathlib.Omega.{arith}
 use lib.ListN.{length, getD}
 use Rattle.plan.specs.Plan.{Operator, op-a, op-b, op-c, op-d, Plan, end, operator, token, block, letter, print, close-bracket, open-brace, close-brace}
 use Rattle.plan.specs.Token.{Allowed, allowed, ampersand, annotation}
-use Rattle.plan.specs.Reading.{HoldsAnnotation, OUTSIDE, PLAN, without-marks}
+use Rattle.plan.specs.Reading.{ACCEPTED, HoldsAnnotation, OUTSIDE, accept, without-marks}
 use Rattle.plan.specs.Pieces.{placed}
-use Rattle.plan.specs.Services.{Limits, accept, as-read, reads, run-read, runs}
+use Rattle.kinds.specs.Limits.{Limits}
+use Rattle.plan.specs.Read.{as-read, reads}
 use Rattle.plan.proofs.MayHold.{opening}
 use Rattle.plan.proofs.ReadBack.{cells-placed, print-placed, read-accepted}
-use Rattle.plan.proofs.Slots.{Roomy, accepted-text, print-accepted, run-saved}
+use Rattle.plan.proofs.Accepting.{Roomy, accepted-text, print-accepted}
 use Rattle.plan.proofs.Taken.{byte-not-held, permitted-taken}
 use Rattle.plan.proofs.Tests.{false-is-not-true}
 use Rattle.plan.proofs.Tokens.{allowed-parts, annotation-of}
@@ -70,20 +71,14 @@ module _ {L : Type 0} (limit : ℕ) where
   print-no-annotation p h = clear-nowhere (print p) (rw append-nil at (clear-print p h [] tt))
 
 -- a text that is accepted reads without its marks as the same plan
-module _ (lim : Limits) (roomy : Roomy lim) (n : ℕ) (text : List ℕ) {p : Plan ℕ} (h : accept lim n text ≡ PLAN p) where
-  pub accept-without-marks : accept lim n (without-marks OUTSIDE text) ≡ PLAN (placed 0 p)
-  accept-without-marks =
-      let ok = accepted-text lim n text h in
-      let good = read-accepted (lim .token) n text (ok .reads) in
-      ap (accept lim n) (sym (good .printed)) ∙ print-accepted lim roomy n (ok .lent) p (good .fine) (good .fits)
+pub accept-without-marks : (lim : Limits) → Roomy lim → (n : ℕ) → n ≤ lim .cells → (text : List ℕ) {p : Plan ℕ} → accept lim n text ≡ ACCEPTED p
+    → accept lim n (without-marks OUTSIDE text) ≡ ACCEPTED (placed 0 p)
+accept-without-marks lim roomy n lent text {p} h =
+    let good = read-accepted (lim .token) n text (accepted-text lim n text h .reads) in
+    ap (accept lim n) (sym (good .printed)) ∙ print-accepted lim roomy n lent p (good .fine) (good .fits)
 
-  -- and so runs as it did
-  pub runs-without-marks : (quota : ℕ) → runs lim n quota (without-marks OUTSIDE text) ≡ runs lim n quota text
-  unfolding runs run-read
-  runs-without-marks quota = rw (accept-without-marks, h) (run-saved n quota p)
-
-pub reads-without-marks : (lim : Limits) → Roomy lim → (text : List ℕ) {p : Plan ℕ} → accept lim (lim .cells) text ≡ PLAN p
+pub reads-without-marks : (lim : Limits) → Roomy lim → (text : List ℕ) {p : Plan ℕ} → accept lim (lim .cells) text ≡ ACCEPTED p
     → reads lim (without-marks OUTSIDE text) ≡ reads lim text
 unfolding reads as-read
 reads-without-marks lim roomy text {p} h =
-    rw (accept-without-marks lim roomy (lim .cells) text h, h, cells-placed 0 p, print-placed 0 p)
+    rw (accept-without-marks lim roomy (lim .cells) (omega arith) text h, h, cells-placed 0 p, print-placed 0 p)

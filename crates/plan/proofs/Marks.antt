@@ -7,26 +7,7 @@ use mathlib.Core.List.{List, [], _∷_, _++_, append-assoc}
 use borrow.Author.Tests.{ne-eqb}
 use Rattle.plan.specs.Plan.{open-brace, close-brace}
 use Rattle.plan.specs.Token.{Name, annotation}
-use Rattle.plan.specs.Reading.{
-  Class,
-  OPERATOR,
-  OPEN,
-  CLOSE,
-  BRACE,
-  BLANK,
-  BAD,
-  Mark,
-  blank,
-  an-annotation,
-  OUTSIDE,
-  IN-TOKEN,
-  IN-ANNOTATION,
-  class,
-  enter,
-  leave,
-  mark,
-  without-marks,
-}
+use Rattle.plan.specs.Reading.{Class, OPERATOR, OPEN, CLOSE, BRACE, BLANK, BAD, Mark, blank, an-annotation, OUTSIDE, IN-TOKEN, IN-ANNOTATION, class, enter, leave, mark, without-marks}
 use Rattle.plan.specs.Refusals.{Begins}
 use Rattle.plan.proofs.Classes.{class-byte, clash, not-brace}
 use Rattle.plan.proofs.Tests.{false-is-not-true}

@@ -9,28 +9,7 @@ use Rattle.plan.specs.Plan.{Plan, end, operator, token, block, _then_, c
 use Rattle.plan.specs.Token.{Allowed, Name}
 use Rattle.plan.specs.Reading.{Around, outermost, inside, BRACE, BLANK, OUTSIDE, class, without-marks}
 use Rattle.plan.specs.Refusals.{Begins}
-use Rattle.plan.specs.Pieces.{
-  Piece,
-  OP,
-  TOKEN,
-  BEGIN,
-  END,
-  pieces,
-  piece-print,
-  in-a-row,
-  starts,
-  relabelled,
-  Shows,
-  nothing,
-  a-mark,
-  an-operator,
-  a-token,
-  opens,
-  closes,
-  so-far,
-  seen,
-  Closes,
-}
+use Rattle.plan.specs.Pieces.{Piece, OP, TOKEN, BEGIN, END, pieces, piece-print, in-a-row, starts, relabelled, Shows, nothing, a-mark, an-operator, a-token, opens, closes, so-far, seen, Closes}
 use Rattle.plan.proofs.Marks.{kept, mark-begins-none, mark-dropped, token-kept}
 use Rattle.plan.proofs.Classes.{class-byte, clash}
 use Rattle.plan.proofs.Plans.{length-labels}

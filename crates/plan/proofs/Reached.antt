@@ -1,35 +1,14 @@
 -- What a reader has come to behind bytes without a fault: one induction over such bytes says where it goes on, and which pieces it
 -- has read. The laws of reading are read off these pieces.
-use Prim.Native.Nat.{ℕ, suc, _+_, _≤_}
+use Prim.Native.Nat.{ℕ, suc, _+_}
 use mathlib.Core.Path.{_≡_, refl, ap, sym, _∙_}
 use mathlib.Core.Bool.{Bool, true, cond}
 use mathlib.Core.List.{List, [], _∷_, _++_, append-nil, append-assoc}
 use native.Mathlib.Omega.{arith}
 use lib.ListN.{length, length-append}
-use borrow.Author.Tests.{le-leb}
 use Rattle.plan.specs.Plan.{Plan, end, operator, token, block, _then_, cells, print, close-brace}
 use Rattle.plan.specs.Token.{Allowed, allowed, annotation}
-use Rattle.plan.specs.Reading.{
-  ON,
-  PLAN,
-  Around,
-  outermost,
-  inside,
-  class,
-  go-on,
-  move,
-  past-token,
-  read-from,
-  fit,
-  read,
-  Mark,
-  blank,
-  an-annotation,
-  BRACE,
-  OUTSIDE,
-  mark,
-  without-marks,
-}
+use Rattle.plan.specs.Reading.{ON, PLAN, Around, outermost, inside, class, go-on, move, past-token, read-from, Mark, blank, an-annotation, BRACE, OUTSIDE, mark, without-marks}
 use Rattle.plan.specs.Refusals.{Faultless, nothing, a-mark, an-operator, a-token, opens, closes}
 use Rattle.plan.specs.Pieces.{Piece, OP, TOKEN, BEGIN, END, pieces, starts, Shows, so-far}
 use Rattle.plan.specs.Pieces as shown
@@ -186,7 +165,3 @@ text-read {limit} {text = text} f =
       printed = print-pieces (w .plan) ∙ shows-row shows;
       fine = shows-allowed (w .plan) shows;
     }
-
-pub text-fits : {limit k : ℕ} {text : List ℕ} (n : ℕ) (t : TextRead limit text k) → k ≤ n → read limit n text ≡ PLAN (t .plan)
-unfolding read fit
-text-fits n t h = rw (t .reads, le-leb (cells (t .plan)) n (omega (arith, t .counted)))

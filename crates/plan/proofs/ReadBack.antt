@@ -7,30 +7,14 @@ use mathlib.Core.List.{List, [], _∷_, _++_, append-nil, append-assoc}
 use native.Mathlib.Omega.{arith}
 use lib.ListN.{length, length-append}
 use borrow.Author.Tests.{le-leb}
-use Rattle.plan.specs.Plan.{
-  Plan,
-  end,
-  operator,
-  token,
-  block,
-  _then_,
-  cells,
-  letter,
-  print,
-  relabel,
-  bare,
-  open-bracket,
-  close-bracket,
-  open-brace,
-  close-brace,
-}
+use Rattle.plan.specs.Plan.{Plan, end, operator, token, block, _then_, cells, letter, print, relabel, bare, open-bracket, close-bracket, open-brace, close-brace}
 use Rattle.plan.specs.Token.{Allowed}
-use Rattle.plan.specs.Reading.{Around, outermost, inside, move, PLAN, OUTSIDE, read-from, fit, read, without-marks}
+use Rattle.plan.specs.Reading.{ACCEPTED, Around, outermost, inside, move, OUTSIDE, read-from, fit, read, without-marks}
 use Rattle.plan.specs.Pieces.{Shows, pieces, placed}
 use Rattle.plan.proofs.Classes.{class-letter, class-open, class-close, class-brace}
 use Rattle.plan.proofs.Plans.{then-end, then-assoc, cells-relabel, print-relabel}
 use Rattle.plan.proofs.Reached.{moved, text-read, token-passed}
-use Rattle.plan.proofs.Refusals.{plan-injective, read-faultless}
+use Rattle.plan.proofs.Refusals.{accepted-injective, plan-injective, read-faultless}
 use Rattle.plan.proofs.Tokens.{allowed-parts}
 
 module _ {L : Type 0} where
@@ -78,7 +62,7 @@ module _ {L : Type 0} where
   print-placed at p = sym (print-relabel (λ l. tt) (placed at p)) ∙ ap print (bare-placed at p) ∙ print-relabel (λ l. tt) p
 
   -- reading the printed text of a plan whose tokens are names, so that none starts with `&`, gives the plan back, but for its labels
-  pub read-print : (limit n : ℕ) (p : Plan L) → Allowed limit p → cells p ≤ n → read limit n (print p) ≡ PLAN (placed 0 p)
+  pub read-print : (limit n : ℕ) (p : Plan L) → Allowed limit p → cells p ≤ n → read limit n (print p) ≡ ACCEPTED (placed 0 p)
   unfolding read fit _then_ read-from
   read-print limit n p h g =
       let fits : cells (placed 0 p) ≤ n = omega (arith, cells-placed 0 p) in
@@ -91,7 +75,7 @@ pub print-injective : {L M : Type 0} (limit : ℕ) (p : Plan L) (q : Plan M) →
 print-injective limit p q hp hq e =
     let n = cells p + cells q in
     let same : placed 0 p ≡ placed 0 q =
-    plan-injective
+    accepted-injective
     (sym (read-print limit n p hp (omega arith)) ∙ ap (read limit n) e ∙ read-print limit n q hq (omega arith)) in
     sym (bare-placed 0 p) ∙ ap bare same ∙ bare-placed 0 q
 
@@ -108,7 +92,7 @@ pub record Accepted (limit n : ℕ) (text : List ℕ) (p : Plan ℕ) : Type 0 wh
   pub printed : print p ≡ without-marks OUTSIDE text
   pub shows : Shows limit 0 text (pieces p)
 
-pub read-accepted : (limit n : ℕ) (text : List ℕ) {p : Plan ℕ} → read limit n text ≡ PLAN p → Accepted limit n text p
+pub read-accepted : (limit n : ℕ) (text : List ℕ) {p : Plan ℕ} → read limit n text ≡ ACCEPTED p → Accepted limit n text p
 read-accepted limit n text {p} e =
     let f = read-faultless limit n text e in
     let r = text-read (f .0) in

@@ -11,56 +11,14 @@ use lib.ListN.{length, drop, getD, length-append}
 use lib.Seq.{drop-nil, getD-at}
 use lib.Dec.{leb}
 use borrow.Author.Tests.{leb-true, leb-false, lt-leb}
-use Rattle.plan.specs.declared.Refusal.{Refusal}
-use Rattle.plan.specs.declared.Refusal.the-variants.{Text, Overfull}
+use Rattle.plan.specs.declared.Unread.{Unread}
+use Rattle.plan.specs.declared.Unread.the-variants.{Overfull}
 use Rattle.plan.specs.declared.TextFault.{TextFault}
 use Rattle.plan.specs.declared.TextFault.the-variants.{Unclosed}
 use Rattle.plan.specs.Plan.{Plan, end, operator, token, block, _then_, cells, labels, close-brace}
 use Rattle.plan.specs.Token.{annotation, token-text}
-use Rattle.plan.specs.Reading.{
-  Around,
-  outermost,
-  inside,
-  Class,
-  OPERATOR,
-  OPEN,
-  CLOSE,
-  BRACE,
-  BLANK,
-  BAD,
-  blank,
-  an-annotation,
-  class,
-  place,
-  go-on,
-  move,
-  past-token,
-  mark,
-  Reading,
-  PLAN,
-  REFUSED,
-  read-from,
-  fit,
-  read,
-}
-use Rattle.plan.specs.Refusals.{
-  Faultless,
-  nothing,
-  a-mark,
-  an-operator,
-  a-token,
-  opens,
-  closes,
-  Fault,
-  bad-byte,
-  bad-token,
-  unmatched,
-  Begins,
-  Row,
-  fault,
-  unclosed,
-  overfull,
-}
+use Rattle.plan.specs.Reading.{Around, outermost, inside, Class, OPERATOR, OPEN, CLOSE, BRACE, BLANK, BAD, blank, an-annotation, class, place, go-on, move, past-token, mark, Reading, PLAN, FAULT, ACCEPTED, UNREAD, place-of-item, read-from, fit, read}
+use Rattle.plan.specs.Refusals.{Faultless, nothing, a-mark, an-operator, a-token, opens, closes, Fault, bad-byte, bad-token, unmatched, Begins, Faulty, fault, unclosed, Row, faulty, overfull}
 use Rattle.plan.proofs.Options.{Each}
 use Rattle.plan.proofs.Plans.{length-labels}
 use Rattle.plan.proofs.TokenFaults.{fault-no-token, first-met, met-first}
@@ -74,8 +32,8 @@ data Verdict (limit from d : ℕ) (bs : List ℕ) : Reading → Type 0 where
   whole : {k : ℕ} {p : Plan ℕ} → Faultless limit d bs 0 k → Verdict limit from d bs (PLAN p)
   stopped : (before rest : List ℕ) (b : ℕ) {e k at : ℕ} {r : TextFault}
       → bs ≡ before ++ b ∷ rest → Faultless limit d before e k → Fault limit at b rest e r → at ≡ from + length before
-      → Verdict limit from d bs (REFUSED (Text r))
-  open-end : {e k at : ℕ} → Faultless limit d bs (suc e) k → at ≡ from + length bs → Verdict limit from d bs (REFUSED (Text (Unclosed (place at))))
+      → Verdict limit from d bs (FAULT r)
+  open-end : {e k at : ℕ} → Faultless limit d bs (suc e) k → at ≡ from + length bs → Verdict limit from d bs (FAULT (Unclosed (place at)))
 
 -- a verdict on bytes behind others in which there is no fault
 module _ {limit d d′ : ℕ} (xs : List ℕ) (longer : (us : List ℕ) (e k : ℕ) → Faultless limit d′ us e k → (m : ℕ) × Faultless limit d (xs ++ us) e m) where
@@ -152,6 +110,9 @@ verdict limit (b ∷ bs) at zero out here from h g =
 pub plan-injective : {p q : Plan ℕ} → PLAN p ≡ PLAN q → p ≡ q
 plan-injective e = cc
 
+pub accepted-injective : {p q : Plan ℕ} → ACCEPTED p ≡ ACCEPTED q → p ≡ q
+accepted-injective e = cc
+
 whole-of : {limit from d : ℕ} {bs : List ℕ} {p : Plan ℕ} → Verdict limit from d bs (PLAN p) → (k : ℕ) × Faultless limit d bs 0 k
 whole-of (whole f) = (_, f)
 
@@ -223,19 +184,19 @@ item-at (closes {b = b} c f) n h = let i = item-at f n h in item-behind (b ∷ [
 
 -- a fault of the next byte stops the reader there
 fault-stops : {limit at b d : ℕ} {rest : List ℕ} {r : TextFault} (out : Around) (here : Plan ℕ) → depth out ≡ d → Fault limit at b rest d r
-    → read-from limit at 0 out here (b ∷ rest) ≡ REFUSED (Text r)
+    → read-from limit at 0 out here (b ∷ rest) ≡ FAULT r
 unfolding read-from go-on move past-token
 fault-stops out here h (bad-byte c) = rw c
 fault-stops out here h (bad-token c first) = rw (c, fault-no-token (first .stands), met-first first)
 fault-stops outermost here h (unmatched c) = rw c
 fault-stops (inside l before out) here h (unmatched c) = absurd (omega arith)
 
-open-stops : (limit at : ℕ) {d : ℕ} (out : Around) (here : Plan ℕ) → depth out ≡ suc d → read-from limit at 0 out here [] ≡ REFUSED (Text (Unclosed (place at)))
+open-stops : (limit at : ℕ) {d : ℕ} (out : Around) (here : Plan ℕ) → depth out ≡ suc d → read-from limit at 0 out here [] ≡ FAULT (Unclosed (place at))
 unfolding read-from
 open-stops limit at outermost here h = absurd (omega arith)
 open-stops limit at (inside l before out) here h = refl
 
-fit-over : (n : ℕ) (p : Plan ℕ) → n < cells p → fit n (PLAN p) ≡ REFUSED (Overfull (place (getD (labels p) n 0)))
+fit-over : (n : ℕ) (p : Plan ℕ) → n < cells p → fit n (PLAN p) ≡ UNREAD (Overfull (place-of-item n p))
 unfolding fit
 fit-over n p h = rw (lt-leb (cells p) n h)
 
@@ -251,77 +212,86 @@ module _ {limit d k : ℕ} {before : List ℕ} (f : Faultless limit 0 before d k
         r .goes rest ∙ ap (λ at. read-from limit at 0 (r .then-out) (r .then-here) rest) (zero-add (length before)),
       )
 
--- the table's row, then the refusal
-pub row-refused : {limit n : ℕ} {text : List ℕ} {r : Refusal} → Row limit n text r → read limit n text ≡ REFUSED r
-unfolding read fit
-row-refused {limit} {n} (fault before rest b e f g) =
+-- the table's row, then the fault, however many cells there are
+pub faulty-read : {limit : ℕ} {text : List ℕ} {f : TextFault} → Faulty limit text f → read-from limit 0 0 outermost end text ≡ FAULT f
+faulty-read {limit} (fault before rest b e f g) =
     let r = past-front f (b ∷ rest) in
-    ap (fit n) (ap (read-from limit 0 0 outermost end) e ∙ r .3 ∙ fault-stops (r .0) (r .1) (r .2) g)
-row-refused {limit} {n} {text} (unclosed f) =
+    ap (read-from limit 0 0 outermost end) e ∙ r .3 ∙ fault-stops (r .0) (r .1) (r .2) g
+faulty-read {limit} {text} (unclosed f) =
     let r = past-front f [] in
-    ap (fit n) (ap (read-from limit 0 0 outermost end) (sym (append-nil text)) ∙ r .3 ∙ open-stops limit (length text) (r .0) (r .1) (r .2))
+    ap (read-from limit 0 0 outermost end) (sym (append-nil text)) ∙ r .3 ∙ open-stops limit (length text) (r .0) (r .1) (r .2)
+
+-- and the fault, then the row
+pub read-faulty : (limit : ℕ) (text : List ℕ) {f : TextFault} → read-from limit 0 0 outermost end text ≡ FAULT f → Faulty limit text f
+read-faulty limit text {f} h = go (rw h at (verdict limit text 0 0 outermost end 0 (omega arith) (omega arith)))
+  where
+    go : {g : TextFault} → Verdict limit 0 0 text (FAULT g) → Faulty limit text g
+    go (stopped before rest b e ok wrong a) = fault before rest b e ok (rw (a ∙ zero-add (length before)) at wrong)
+    go (open-end ok a) = subst (λ at. Faulty limit text (Unclosed (place at))) (sym (a ∙ zero-add (length text))) (unclosed ok)
+
+-- the same with the row of a plan that is too large
+pub row-refused : {limit n : ℕ} {text : List ℕ} {u : Unread} → Row limit n text u → read limit n text ≡ UNREAD u
+unfolding read fit
+row-refused {limit} {n} (faulty f) = ap (fit n) (faulty-read f)
 row-refused {limit} {n} (overfull before rest b e f g h) =
     let w = text-read h in
     let i = item-place limit before rest b f g (ap (read-from limit 0 0 outermost end) (sym e) ∙ w .reads) in
-    ap (fit n) (w .reads) ∙ fit-over n (w .plan) (i .1) ∙ ap (λ at. REFUSED (Overfull (place at))) (i .0)
+    ap (fit n) (w .reads) ∙ fit-over n (w .plan) (i .1) ∙ ap (λ at. UNREAD (Overfull (place at))) (i .0)
 
-pub refused-injective : {r s : Refusal} → REFUSED r ≡ REFUSED s → r ≡ s
-refused-injective e = cc
+pub unread-injective : {u v : Unread} → UNREAD u ≡ UNREAD v → u ≡ v
+unread-injective e = cc
 
-pub plan-is-no-refusal : {A : Type 0} {p : Plan ℕ} {r : Refusal} → PLAN p ≡ REFUSED r → A
-plan-is-no-refusal e = absurd (let z : _≡_ {A = ℕ} 0 1 = cc in omega arith)
+pub accepted-is-not-unread : {A : Type 0} {p : Plan ℕ} {u : Unread} → ACCEPTED p ≡ UNREAD u → A
+accepted-is-not-unread e = absurd (let z : _≡_ {A = ℕ} 0 1 = cc in omega arith)
 
-row-of : {limit n : ℕ} {text : List ℕ} {x : Reading} {r : Refusal} → read-from limit 0 0 outermost end text ≡ x → Verdict limit 0 0 text x
-    → fit n x ≡ REFUSED r → Row limit n text r
-unfolding fit
-row-of {limit} {n} {text} x (stopped before rest b e f g a) h =
-    subst (Row limit n text) (refused-injective h)
-    (fault before rest b e f (rw (a ∙ zero-add (length before)) at g))
-row-of {limit} {n} {text} x (open-end {at = at} f a) h =
-    subst (Row limit n text) (ap (λ at. Text (Unclosed (place at))) (sym (a ∙ zero-add (length text))) ∙ refused-injective h) (unclosed f)
-row-of {limit} {n} {text} {r = r} x (whole {p = p} f) h =
-    go (leb (cells p) n) refl h
-  where
-    over : n < cells p → REFUSED (Overfull (place (getD (labels p) n 0))) ≡ REFUSED r → Row limit n text r
-    over g e =
-        let w = text-read f in
-        let i = item-at f n (subst (n <_) (ap cells (plan-injective (sym x ∙ w .reads)) ∙ w .counted) g) in
-        let at = item-place limit (i .before) (i .rest) (i .first) (i .faultless) (i .begins)
-        (ap (read-from limit 0 0 outermost end) (sym (i .splits)) ∙ x) in
-        subst (Row limit n text) (ap (λ at. Overfull (place at)) (sym (at .0)) ∙ refused-injective e)
-        (overfull (i .before) (i .rest) (i .first) (i .splits) (i .faultless) (i .begins) f)
-
-    go : (t : Bool) → leb (cells p) n ≡ t → cond t (PLAN p) (REFUSED (Overfull (place (getD (labels p) n 0)))) ≡ REFUSED r → Row limit n text r
-    go true e h = plan-is-no-refusal h
-    go false e h = over (leb-false (cells p) n e) h
+-- a text that reads has no fault, and each of its items a byte
+pub plan-faultless : (limit : ℕ) (text : List ℕ) {p : Plan ℕ} → read-from limit 0 0 outermost end text ≡ PLAN p → Faultless limit 0 text 0 (cells p)
+plan-faultless limit text {p} h =
+    let w = whole-of (rw h at (verdict limit text 0 0 outermost end 0 (omega arith) (omega arith))) in
+    let r = text-read (w .1) in
+    let counted : w .0 ≡ cells p = sym (r .counted) ∙ ap cells (plan-injective (sym (r .reads) ∙ h)) in
+    rw counted at (w .1)
 
 -- the refusal, then the table's row
-pub refused-row : (limit n : ℕ) (text : List ℕ) {r : Refusal} → read limit n text ≡ REFUSED r → Row limit n text r
-unfolding read
-refused-row limit n text h = row-of refl (verdict limit text 0 0 outermost end 0 (omega arith) (omega arith)) h
+pub refused-row : (limit n : ℕ) (text : List ℕ) {u : Unread} → read limit n text ≡ UNREAD u → Row limit n text u
+unfolding read fit
+refused-row limit n text {u} h = go (read-from limit 0 0 outermost end text) refl h
+  where
+    over : {p : Plan ℕ} → read-from limit 0 0 outermost end text ≡ PLAN p → n < cells p → UNREAD (Overfull (place-of-item n p)) ≡ UNREAD u → Row limit n text u
+    over x g e =
+        let f = plan-faultless limit text x in
+        let i = item-at f n g in
+        let at = item-place limit (i .before) (i .rest) (i .first) (i .faultless) (i .begins)
+        (ap (read-from limit 0 0 outermost end) (sym (i .splits)) ∙ x) in
+        subst (Row limit n text) (ap (λ at. Overfull (place at)) (sym (at .0)) ∙ unread-injective e)
+        (overfull (i .before) (i .rest) (i .first) (i .splits) (i .faultless) (i .begins) f)
+
+    go : (x : Reading) → read-from limit 0 0 outermost end text ≡ x → fit n x ≡ UNREAD u → Row limit n text u
+    go (FAULT f) x h = subst (Row limit n text) (unread-injective h) (faulty (read-faulty limit text x))
+    go (PLAN p) x h = test (leb (cells p) n) refl h
+      where
+        test : (t : Bool) → leb (cells p) n ≡ t → cond t (ACCEPTED p) (UNREAD (Overfull (place-of-item n p))) ≡ UNREAD u → Row limit n text u
+        test true e h = accepted-is-not-unread h
+        test false e h = over x (leb-false (cells p) n e) h
 
 -- each refusal number of 13 to 17 and 21 to 25 exactly when its row of the table says, with that row's place
-pub refused-iff : (limit n : ℕ) (text : List ℕ) (r : Refusal) → (read limit n text ≡ REFUSED r) ↔ Row limit n text r
-refused-iff limit n text r = (λ e. refused-row limit n text e, λ h. row-refused h)
+pub refused-iff : (limit n : ℕ) (text : List ℕ) (u : Unread) → (read limit n text ≡ UNREAD u) ↔ Row limit n text u
+refused-iff limit n text u = (λ e. refused-row limit n text e, λ h. row-refused h)
 
--- a text that is read has no fault, and no more cells than were lent
-pub read-faultless : (limit n : ℕ) (text : List ℕ) {p : Plan ℕ} → read limit n text ≡ PLAN p
-    → Faultless limit 0 text 0 (cells p) × (cells p ≤ n) × (read-from limit 0 0 outermost end text ≡ PLAN p)
-unfolding read fit
-read-faultless limit n text {p} e = go (read-from limit 0 0 outermost end text) refl (verdict limit text 0 0 outermost end 0 (omega arith) (omega arith)) e
+-- a plan that fits is accepted as it was read
+pub fit-accepted : (n : ℕ) (x : Reading) {p : Plan ℕ} → fit n x ≡ ACCEPTED p → (x ≡ PLAN p) × (cells p ≤ n)
+unfolding fit
+fit-accepted n (FAULT f) h = accepted-is-not-unread (sym h)
+fit-accepted n (PLAN q) {p} h = test (leb (cells q) n) refl h
   where
-    go : (x : Reading) → read-from limit 0 0 outermost end text ≡ x → Verdict limit 0 0 text x → fit n x ≡ PLAN p
-        → Faultless limit 0 text 0 (cells p) × (cells p ≤ n) × (read-from limit 0 0 outermost end text ≡ PLAN p)
-    go (REFUSED r) e v h = plan-is-no-refusal (sym h)
-    go (PLAN q) e v h = test (leb (cells q) n) refl e v h
-      where
-        test : (t : Bool) → leb (cells q) n ≡ t → read-from limit 0 0 outermost end text ≡ PLAN q → Verdict limit 0 0 text (PLAN q)
-            → cond t (PLAN q) (REFUSED (Overfull (place (getD (labels q) n 0)))) ≡ PLAN p
-            → Faultless limit 0 text 0 (cells p) × (cells p ≤ n) × (read-from limit 0 0 outermost end text ≡ PLAN p)
-        test true t e v h =
-            let same : q ≡ p = plan-injective h in
-            let w = whole-of v in
-            let r = text-read (w .1) in
-            let counted : w .0 ≡ cells p = sym (r .counted) ∙ ap cells (plan-injective (sym (r .reads) ∙ e) ∙ same) in
-            (rw counted at (w .1), subst (λ z. cells z ≤ n) same (leb-true (cells q) n t), e ∙ ap PLAN same)
-        test false t e v h = plan-is-no-refusal (sym h)
+    test : (t : Bool) → leb (cells q) n ≡ t → cond t (ACCEPTED q) (UNREAD (Overfull (place-of-item n q))) ≡ ACCEPTED p → (PLAN q ≡ PLAN p) × (cells p ≤ n)
+    test true t h = let same : q ≡ p = accepted-injective h in (ap PLAN same, subst (λ z. cells z ≤ n) same (leb-true (cells q) n t))
+    test false t h = accepted-is-not-unread (sym h)
+
+-- a text that is accepted has no fault, and no more cells than there are
+pub read-faultless : (limit n : ℕ) (text : List ℕ) {p : Plan ℕ} → read limit n text ≡ ACCEPTED p
+    → Faultless limit 0 text 0 (cells p) × (cells p ≤ n) × (read-from limit 0 0 outermost end text ≡ PLAN p)
+unfolding read
+read-faultless limit n text e =
+    let (is, few) = fit-accepted n (read-from limit 0 0 outermost end text) e in
+    (plan-faultless limit text is, few, is)

@@ -19,26 +19,7 @@ use Rattle.plan.specs.declared.TokenFault.{TokenFault}
 use Rattle.plan.specs.declared.TokenFault.the-variants.{Empty, Long, BadUtf8, Forbidden, InnerBrace}
 use Rattle.plan.specs.Plan.{open-brace, close-brace}
 use Rattle.plan.specs.Token.{all-permitted, character, may-hold, token-text}
-use Rattle.plan.specs.TokenFaults.{
-  NoneBefore,
-  CharacterAt,
-  first,
-  behind,
-  NeverHeld,
-  FaultAt,
-  nothing-between,
-  too-long,
-  text-ends,
-  no-character,
-  never-held,
-  inner-brace,
-  FirstFault,
-  Met,
-  met,
-  unheld,
-  meet,
-  first-fault,
-}
+use Rattle.plan.specs.TokenFaults.{NoneBefore, CharacterAt, first, behind, NeverHeld, FaultAt, nothing-between, too-long, text-ends, no-character, never-held, inner-brace, FirstFault, Met, met, unheld, meet, first-fault}
 use Rattle.plan.specs.Pieces.{Found}
 use Rattle.plan.proofs.MayHold.{beyond, closing, control, late-control, opening, printing, replacement}
 use Rattle.plan.proofs.Options.{Each, some-is-not-none}

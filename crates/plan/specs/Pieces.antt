@@ -6,21 +6,7 @@ use mathlib.Core.Path.{_≡_}
 use mathlib.Core.Bool.{true}
 use mathlib.Core.List.{List, [], _∷_, _++_}
 use lib.ListN.{length}
-use Rattle.plan.specs.Plan.{
-  Operator,
-  Plan,
-  end,
-  operator,
-  token,
-  block,
-  labels,
-  letter,
-  print,
-  open-bracket,
-  close-bracket,
-  open-brace,
-  close-brace,
-}
+use Rattle.plan.specs.Plan.{Operator, Plan, end, operator, token, block, labels, letter, print, open-bracket, close-bracket, open-brace, close-brace}
 use Rattle.plan.specs.Token.{Name, allowed}
 use Rattle.plan.specs.Reading.{Around, outermost, inside, Mark, OPERATOR, OPEN, CLOSE, BRACE, class}
 

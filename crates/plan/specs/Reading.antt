@@ -1,5 +1,6 @@
--- Reading a text: the plan, each item labelled with the place of its first byte, or the refusal. Document 01, the table
--- of bytes and refusals 13 to 17, and the faults of a token; annotations mean nothing by request 2 of document 02.
+-- Reading a text: the plan, each item labelled with the place of its first byte, or the first fault; then whether the plan fits the
+-- cells that there are. Document 01, the table of bytes and refusals 11 and 13 to 17, and the faults of a token; annotations mean nothing
+-- by request 2 of document 02.
 use Prim.Native.Nat.{ℕ, zero, suc, _+_, _-_}
 use mathlib.Core.Path.{_≡_}
 use mathlib.Core.Logic.{_≢_, _⊎_}
@@ -7,43 +8,18 @@ use mathlib.Core.Bool.{Bool, true, false, cond}
 use mathlib.Core.Option.{Option, none, some}
 use mathlib.Core.List.{List, [], _∷_, _++_}
 use lib.ListN.{length, getD}
-use lib.Dec.{leb, eqb}
+use lib.Dec.{leb, ltb, eqb}
 use Rattle.kinds.specs.declared.Place.{Place}
-use Rattle.plan.specs.declared.Refusal.{Refusal}
-use Rattle.plan.specs.declared.Refusal.the-variants.{Text, Overfull}
+use Rattle.kinds.specs.Limits.{Limits}
+use Rattle.plan.specs.declared.Unread.{Unread}
+use Rattle.plan.specs.declared.Unread.the-variants.{Text, Overfull}
 use Rattle.plan.specs.declared.TextFault.{TextFault}
-use Rattle.plan.specs.declared.TextFault.the-variants.{BadByte, BadToken, Unmatched, Unclosed}
-use Rattle.plan.specs.Plan.{
-  Operator,
-  op-a,
-  op-b,
-  op-c,
-  op-d,
-  Plan,
-  end,
-  operator,
-  token,
-  block,
-  _then_,
-  cells,
-  labels,
-  letter,
-  open-bracket,
-  close-bracket,
-  open-brace,
-  close-brace,
-}
+use Rattle.plan.specs.declared.TextFault.the-variants.{TooLong, BadByte, BadToken, Unmatched, Unclosed}
+use Rattle.plan.specs.Plan.{Operator, op-a, op-b, op-c, op-d, Plan, end, operator, token, block, _then_, cells, labels, letter, open-bracket, close-bracket, open-brace, close-brace}
 use Rattle.plan.specs.Token.{allowed, ampersand, annotation, token-text}
 use Rattle.plan.specs.TokenFaults.{Met, first-fault}
 pub use Rattle.plan.specs.declared.Class.{Class}
-pub use Rattle.plan.specs.declared.Class.the-variants.{
-  Operator as OPERATOR,
-  Open as OPEN,
-  Close as CLOSE,
-  Brace as BRACE,
-  Blank as BLANK,
-  Bad as BAD,
-}
+pub use Rattle.plan.specs.declared.Class.the-variants.{Operator as OPERATOR, Open as OPEN, Close as CLOSE, Brace as BRACE, Blank as BLANK, Bad as BAD}
 
 abbrev pub place : ℕ → Place
 place n = record { 0 = n }
@@ -114,29 +90,51 @@ move limit at BRACE rest out here = past-token limit at rest (token-text limit r
 move limit at BLANK rest out here = ON out here 0
 move limit at BAD rest out here = STOP (BadByte (place at))
 
+-- what a text reads as: a plan, however many cells it has, or its first fault
 pub data Reading : Type 0 where
   PLAN : Plan ℕ → Reading
-  REFUSED : Refusal → Reading
+  FAULT : TextFault → Reading
 
 unfoldable pub go-on : Move → (Around → Plan ℕ → ℕ → Reading) → Reading
-go-on (STOP f) after = REFUSED (Text f)
+go-on (STOP f) after = FAULT f
 go-on (ON out here skip) after = after out here skip
 
 -- reading from the place `at` on
 unfoldable pub read-from : (limit at skip : ℕ) → Around → Plan ℕ → List ℕ → Reading
 read-from limit at skip outermost here [] = PLAN here
-read-from limit at skip (inside l before out) here [] = REFUSED (Text (Unclosed (place at)))
+read-from limit at skip (inside l before out) here [] = FAULT (Unclosed (place at))
 read-from limit at (suc skip) out here (b ∷ bs) = read-from limit (suc at) skip out here bs
 read-from limit at zero out here (b ∷ bs) =
     go-on (move limit at (class b) bs out here) (λ out′ here′ skip. read-from limit (suc at) skip out′ here′ bs)
 
--- a plan of more than n cells is refused at item number n, items counted from 0 by their first bytes
-unfoldable pub fit : (n : ℕ) → Reading → Reading
-fit n (REFUSED r) = REFUSED r
-fit n (PLAN p) = cond (leb (cells p) n) (PLAN p) (REFUSED (Overfull (place (getD (labels p) n 0))))
+-- a text from its first byte on
+abbrev pub read-bytes : (limit : ℕ) → List ℕ → Reading
+read-bytes limit text = read-from limit 0 0 outermost end text
 
-unfoldable pub read : (limit n : ℕ) → List ℕ → Reading
-read limit n text = fit n (read-from limit 0 0 outermost end text)
+-- 11, then 13 to 16 with 21 to 25 for 14: how many cells the plan has does not matter
+unfoldable pub read-text : Limits → List ℕ → Reading
+read-text lim text = cond (ltb (lim .text) (length text)) (FAULT TooLong) (read-bytes (lim .token) text)
+
+-- a text is accepted as a plan, or it is not read: for its fault, or as too large
+pub data Acceptance : Type 0 where
+  ACCEPTED : Plan ℕ → Acceptance
+  UNREAD : Unread → Acceptance
+
+-- the place of item number n, items counted from 0 by their first bytes; 0 where there are not so many
+abbrev pub place-of-item : (n : ℕ) → Plan ℕ → Place
+place-of-item n p = place (getD (labels p) n 0)
+
+-- a plan of more than n cells is refused at item number n, the first past them
+unfoldable pub fit : (n : ℕ) → Reading → Acceptance
+fit n (FAULT f) = UNREAD (Text f)
+fit n (PLAN p) = cond (leb (cells p) n) (ACCEPTED p) (UNREAD (Overfull (place-of-item n p)))
+
+unfoldable pub read : (limit n : ℕ) → List ℕ → Acceptance
+read limit n text = fit n (read-bytes limit text)
+
+-- 11, then 13 to 17 with 21 to 25 for 14, where there are n cells
+unfoldable pub accept : Limits → (n : ℕ) → List ℕ → Acceptance
+accept lim n text = fit n (read-text lim text)
 
 -- the regions of a text, by the byte that comes next: outside tokens, in a token that is kept, or in an annotation
 pub data Region : Type 0 where
@@ -167,7 +165,7 @@ HoldsAnnotation bs = (before : List ℕ) × (rest : List ℕ) × (bs ≡ before 
 -- the plan that a text reads as, however many cells it has; for a text with a fault, the empty plan
 unfoldable pub plan-in : Reading → Plan ℕ
 plan-in (PLAN p) = p
-plan-in (REFUSED r) = end
+plan-in (FAULT f) = end
 
 unfoldable pub plan-of : (limit : ℕ) → List ℕ → Plan ℕ
-plan-of limit text = plan-in (read-from limit 0 0 outermost end text)
+plan-of limit text = plan-in (read-bytes limit text)

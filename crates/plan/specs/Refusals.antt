@@ -1,18 +1,18 @@
--- The table's rows 11 to 17, with 21 to 25 for 14, "given exactly when" and "place", said of the text itself and not of a reader.
+-- The table's rows 11 and 13 to 17, with 21 to 25 for 14, "given exactly when" and "place", said of the text itself and not of a reader.
 use Prim.Native.Nat.{ℕ, suc, _+_, _≤_, _<_}
 use mathlib.Core.Path.{_≡_}
 use mathlib.Core.Bool.{false}
 use mathlib.Core.List.{List, [], _∷_, _++_}
 use lib.ListN.{length}
-use Rattle.plan.specs.declared.Refusal.{Refusal}
-use Rattle.plan.specs.declared.Refusal.the-variants.{Text, BadArena, Overfull}
+use Rattle.plan.specs.declared.Unread.{Unread}
+use Rattle.plan.specs.declared.Unread.the-variants.{Text, Overfull}
 use Rattle.plan.specs.declared.TokenFault.{TokenFault}
 use Rattle.plan.specs.declared.TextFault.{TextFault}
 use Rattle.plan.specs.declared.TextFault.the-variants.{TooLong, BadByte, BadToken, Unmatched, Unclosed}
 use Rattle.plan.specs.Plan.{Operator, close-brace}
 use Rattle.plan.specs.Token.{Name, annotation}
 use Rattle.plan.specs.TokenFaults.{FirstFault}
-use Rattle.plan.specs.Services.{Limits}
+use Rattle.kinds.specs.Limits.{Limits}
 use Rattle.plan.specs.Reading.{Class, OPERATOR, OPEN, CLOSE, BRACE, BLANK, BAD, Mark, class, place}
 
 -- `Faultless limit d bs e k`: the bytes hold no fault where d blocks are open before them; e are open after them, and
@@ -45,18 +45,21 @@ Begins BRACE rest = annotation rest ≡ false
 Begins BLANK rest = ⊥
 Begins BAD rest = ⊥
 
--- the first fault; else the end in an open block; else the first item past n
-pub data Row (limit n : ℕ) (text : List ℕ) : Refusal → Type 0 where
+-- the first fault; else the end in an open block. How many cells there are does not matter
+pub data Faulty (limit : ℕ) (text : List ℕ) : TextFault → Type 0 where
   fault : (before rest : List ℕ) (b : ℕ) {d k : ℕ} {f : TextFault}
       → text ≡ before ++ b ∷ rest → Faultless limit 0 before d k → Fault limit (length before) b rest d f
-      → Row limit n text (Text f)
-  unclosed : {d k : ℕ} → Faultless limit 0 text (suc d) k → Row limit n text (Text (Unclosed (place (length text))))
+      → Faulty limit text f
+  unclosed : {d k : ℕ} → Faultless limit 0 text (suc d) k → Faulty limit text (Unclosed (place (length text)))
+
+-- .. and else the first item past n
+pub data Row (limit n : ℕ) (text : List ℕ) : Unread → Type 0 where
+  faulty : {f : TextFault} → Faulty limit text f → Row limit n text (Text f)
   overfull : (before rest : List ℕ) (b : ℕ) {d k : ℕ}
       → text ≡ before ++ b ∷ rest → Faultless limit 0 before d n → Begins (class b) rest → Faultless limit 0 text 0 k
       → Row limit n text (Overfull (place (length before)))
 
--- the rows 11 and 12 stand before those of the text
-pub data Refuses (lim : Limits) (n : ℕ) (text : List ℕ) : Refusal → Type 0 where
-  too-long : lim .text < length text → Refuses lim n text (Text TooLong)
-  bad-arena : length text ≤ lim .text → lim .cells < n → Refuses lim n text BadArena
-  bad-text : {r : Refusal} → length text ≤ lim .text → n ≤ lim .cells → Row (lim .token) n text r → Refuses lim n text r
+-- row 11 stands before those of the text's bytes
+pub data Unreadable (lim : Limits) (n : ℕ) (text : List ℕ) : Unread → Type 0 where
+  too-long : lim .text < length text → Unreadable lim n text (Text TooLong)
+  bad-text : {u : Unread} → length text ≤ lim .text → Row (lim .token) n text u → Unreadable lim n text u

@@ -11,18 +11,10 @@ use Rattle.plan.specs.Plan.{open-brace, close-brace}
 use Rattle.plan.specs.Token.{character, may-hold}
 use Rattle.plan.specs.Reading.{class, place}
 use Rattle.plan.specs.declared.Class.{Class}
-use Rattle.plan.specs.declared.Class.the-variants.{
-  Operator as OPERATOR,
-  Open as OPEN,
-  Close as CLOSE,
-  Brace as BRACE,
-  Blank as BLANK,
-  Bad as BAD,
-}
+use Rattle.plan.specs.declared.Class.the-variants.{Operator as OPERATOR, Open as OPEN, Close as CLOSE, Brace as BRACE, Blank as BLANK, Bad as BAD}
 use Rattle.plan.specs.declared.Operator.{Operator}
 use Rattle.plan.specs.declared.Character.{Character}
 use Rattle.plan.specs.declared.Character.the-variants.{Whole, Malformed}
-use Rattle.plan.specs.declared.Refusal.the-variants.{Text, Overfull}
 use Rattle.plan.specs.declared.TextFault.the-variants.{BadByte, Unmatched, Unclosed}
 use Rattle.reader.specs.Counting.{nothing-yet, one-item, opened, closed, stepped, kept-or-passed, faulty, in-character, in-token, finished}
 use Rattle.reader.specs.declared.Count.{Count}
@@ -33,7 +25,7 @@ use Rattle.reader.specs.declared.InToken.the-variants.{Further, Ends}
 use Rattle.reader.specs.declared.TokenRead.the-variants.{Whole as WholeToken, Faulty}
 use Rattle.reader.specs.declared.ByteStep.{ByteStep}
 use Rattle.reader.specs.declared.ByteStep.the-variants.{On, Token, Stop}
-use Rattle.reader.specs.declared.Surveyed.the-variants.{Accepted, Refused}
+use Rattle.reader.specs.declared.Surveyed.the-variants.{Counted, Faulty as FaultyText}
 
 pub nothing-told : (p : Place) → p .0 ≡ 0 → record { depth = 0; cells = 0; length = 0; past = p } ≡ nothing-yet
 nothing-told p h = ap (λ k. record { depth = 0; cells = 0; length = 0; past = place k }) h
@@ -81,17 +73,14 @@ module _ (n : Count) (at room : ℕ) where
   unfolding stepped
   close-matched h = rw (ne-eqb (n .depth) 0 h)
 
-  pub end-open : (p : Place) → 0 < n .depth → p .0 ≡ at → Refused (Text (Unclosed p)) ≡ finished n at room
+module _ (n : Count) (at : ℕ) where
+  pub end-open : (p : Place) → 0 < n .depth → p .0 ≡ at → FaultyText (Unclosed p) ≡ finished n at
   unfolding finished
-  end-open p h g = rw (lt-ltb 0 (n .depth) h) (ap (λ k. Refused (Text (Unclosed (place k)))) g)
+  end-open p h g = rw (lt-ltb 0 (n .depth) h) (ap (λ k. FaultyText (Unclosed (place k))) g)
 
-  pub end-past : n .depth ≤ 0 → room < n .cells → Refused (Overfull (n .past)) ≡ finished n at room
+  pub end-closed : n .depth ≤ 0 → Counted (n .cells) (n .length) (n .past) ≡ finished n at
   unfolding finished
-  end-past h g = rw (le-ltb 0 (n .depth) h, lt-ltb room (n .cells) g)
-
-  pub end-within : n .depth ≤ 0 → n .cells ≤ room → Accepted (n .cells) (n .length) ≡ finished n at room
-  unfolding finished
-  end-within h g = rw (le-ltb 0 (n .depth) h, le-ltb room (n .cells) g)
+  end-closed h = rw (le-ltb 0 (n .depth) h)
 
 -- whether a mark was read, as the code found it, s, is as the text has it, t
 module _ (n : Count) (at room bytes : ℕ) {s t : Bool} (e : s ≡ t) where

@@ -1,4 +1,3 @@
 pub mod Counted
 pub mod SurveySoFar
-pub mod Surveys
 pub mod TokenSoFar

@@ -1,7 +1,7 @@
 -- What the reader's outer loop knows at each place, and each turn of it on plain values: the bytes passed hold no fault, and
 -- the counts are theirs. The end of the text, and a fault, are then what reading says.
 use Prim.Native.Nat.{ℕ, suc, _+_, _-_, _≤_, _<_}
-use mathlib.Core.Path.{_≡_, refl, ap, ap₂, sym, _∙_, subst}
+use mathlib.Core.Path.{_≡_, refl, ap, sym, _∙_, subst}
 use mathlib.Core.Bool.{Bool, true, false, cond}
 use mathlib.Core.Logic.{_≢_}
 use mathlib.Core.List.{List, [], _∷_, _++_, append-nil}
@@ -9,27 +9,28 @@ use native.Mathlib.Omega.{arith}
 use native.Mathlib.Nat.{add-zero}
 use native.Mathlib.Numerals.{add-one}
 use lib.Dec.{eqb, ltb}
-use lib.ListN.{length, getD, take, drop, length-append}
+use lib.ListN.{length, getD, take, drop, length-append, List·getD-eq-default}
 use lib.Seq.{take-all, split-at, length-take-le}
 use borrow.Author.Tests.{eqb-true, eqb-false, ltb-true, ltb-false}
 use Rattle.kinds.specs.Limits.{textLimit, tokenLimit}
-use Rattle.plan.specs.Plan.{cells}
-use Rattle.plan.specs.Reading.{Mark, blank, OUTSIDE, class, place, read, without-marks}
+use Rattle.kinds.specs.declared.Place.{Place}
+use Rattle.plan.specs.Plan.{Plan, cells, labels, print}
+use Rattle.plan.specs.Reading.{Mark, PLAN, blank, OUTSIDE, class, place, place-of-item, read-bytes, without-marks}
 use Rattle.plan.specs.declared.Class.{Class}
 use Rattle.plan.specs.declared.Class.the-variants.{Operator as OPERATOR, Open as OPEN, Close as CLOSE, Brace as BRACE, Blank as BLANK, Bad as BAD}
-use Rattle.plan.specs.Refusals.{Faultless, nothing, a-mark, an-operator, opens, closes, Fault, bad-byte, unmatched, Begins, fault, unclosed, overfull}
-use Rattle.plan.specs.declared.Refusal.the-variants.{Text, Overfull}
+use Rattle.plan.specs.Refusals.{Faultless, nothing, a-mark, an-operator, opens, closes, Fault, bad-byte, unmatched, Begins, fault, unclosed}
 use Rattle.plan.specs.declared.TextFault.{TextFault}
 use Rattle.plan.specs.declared.TextFault.the-variants.{Unmatched, Unclosed}
 use Rattle.plan.proofs.Marks.{kept, mark-dropped}
 use Rattle.plan.proofs.Classes.{clash}
 use Rattle.plan.proofs.Faultless.{take-one, faultless-then, marks-then, faultless-bounds, without-marks-length}
-use Rattle.plan.proofs.Reached.{TextRead, text-read, text-fits}
-use Rattle.plan.proofs.Refusals.{row-refused}
+use Rattle.plan.proofs.Reached.{text-read}
+use Rattle.plan.proofs.Refusals.{faulty-read, item-place}
+use Rattle.plan.proofs.Plans.{length-labels}
 use Rattle.reader.specs.Counting.{Small, nothing-yet, one-item, closed, stepped, finished, surveyed}
 use Rattle.reader.specs.declared.Count.{Count}
 use Rattle.reader.specs.declared.ByteStep.the-variants.{On, Token, Stop}
-use Rattle.reader.specs.declared.Surveyed.the-variants.{Accepted, Refused}
+use Rattle.reader.specs.declared.Surveyed.the-variants.{Counted, Faulty as FaultyText}
 
 -- item number `room` begins at the place `first`
 pub record PastAt (text : List ℕ) (room first at : ℕ) : Type 0 where
@@ -44,6 +45,7 @@ pub record SurveySoFar (text : List ℕ) (room : ℕ) (n : Count) (at : ℕ) : T
   pub clean : Faultless tokenLimit 0 (take at text) (n .depth) (n .cells)
   pub keeps : length (without-marks OUTSIDE (take at text)) ≡ n .length
   pub past : room < n .cells → PastAt text room (n .past .0) at
+  pub none-past : n .cells ≤ room → n .past .0 ≡ 0
 
 pub survey-small : {text : List ℕ} {room at : ℕ} {n : Count} → SurveySoFar text room n at → Small n
 survey-small {text} {room} {at} g =
@@ -81,6 +83,7 @@ module _ {text : List ℕ} {room at : ℕ} {n : Count} (g : SurveySoFar text roo
         clean = rw add-zero at (cleaner f);
         keeps = keeping ∙ ap (n .length +_) k;
         past = still-past;
+        none-past = g .none-past;
       }
 
   -- a mark is passed over
@@ -104,8 +107,13 @@ module _ {text : List ℕ} {room at : ℕ} {n : Count} (g : SurveySoFar text roo
         clean = cleaner f;
         keeps = keeping ∙ ap (n .length +_) k;
         past = go (eqb (n .cells) room) refl;
+        none-past = none (eqb (n .cells) room) refl;
       }
     where
+      none : (t : Bool) → eqb (n .cells) room ≡ t → n .cells + 1 ≤ room → cond t (place at) (n .past) .0 ≡ 0
+      none true e h = let same : n .cells ≡ room = eqb-true (n .cells) room e in absurd (omega arith)
+      none false e h = g .none-past (omega arith)
+
       go : (t : Bool) → eqb (n .cells) room ≡ t → room < n .cells + 1 → PastAt text room (cond t (place at) (n .past) .0) at′
       go true e h =
           record { deep = n .depth; clean = rw (eqb-true (n .cells) room e) at (g .clean); begins = begins; before = later }
@@ -121,7 +129,11 @@ survey-start text room n short e =
       clean = nothing;
       keeps = refl;
       past = λ h. absurd (omega arith);
+      none-past = λ h. refl;
     })
+
+same-counts : {c c′ l l′ : ℕ} {p p′ : Place} → c ≡ c′ → l ≡ l′ → p ≡ p′ → Counted c l p ≡ Counted c′ l′ p′
+same-counts a b e = rw (a, b, e)
 
 on-injective : {n m : Count} → On n ≡ On m → n ≡ m
 on-injective e = cc
@@ -175,65 +187,67 @@ module _ {text : List ℕ} {room at : ℕ} {n : Count} (g : SurveySoFar text roo
   survey-on m e = on-by-class (class here) refl m (sym e)
 
   -- a fault at this place is what reading refuses
-  pub refused-here : {r : TextFault} → Fault tokenLimit at here (drop (suc at) text) (n .depth) r → Refused (Text r) ≡ surveyed (read tokenLimit room text)
+  pub refused-here : {r : TextFault} → Fault tokenLimit at here (drop (suc at) text) (n .depth) r → FaultyText r ≡ surveyed room (read-bytes tokenLimit text)
   unfolding surveyed
   refused-here {r} f =
-      rw (row-refused {limit = tokenLimit} {n = room}
+      rw (faulty-read {limit = tokenLimit}
       (fault (take at text) (drop (suc at) text) here (split-at text at 0 inside) (g .clean)
       (subst (λ k. Fault tokenLimit k here (drop (suc at) text) (n .depth) r) (sym (length-take-le at text (g .within))) f)))
 
-  stop-by-class : (k : Class) → class here ≡ k → (r : TextFault) → stepped n k at room ≡ Stop r → Refused (Text r) ≡ surveyed (read tokenLimit room text)
+  stop-by-class : (k : Class) → class here ≡ k → (r : TextFault) → stepped n k at room ≡ Stop r → FaultyText r ≡ surveyed room (read-bytes tokenLimit text)
   unfolding stepped
   stop-by-class (OPERATOR o) c r e = stop-is-not-on (sym e)
   stop-by-class OPEN c r e = stop-is-not-on (sym e)
   stop-by-class CLOSE c r e = go (eqb (n .depth) 0) refl e
     where
       go : (t : Bool) → eqb (n .depth) 0 ≡ t → cond t (Stop (Unmatched (place at))) (On (closed n)) ≡ Stop r
-          → Refused (Text r) ≡ surveyed (read tokenLimit room text)
+          → FaultyText r ≡ surveyed room (read-bytes tokenLimit text)
       go true h e =
-          subst (λ s. Refused (Text s) ≡ surveyed (read tokenLimit room text)) (stop-injective e)
+          subst (λ s. FaultyText s ≡ surveyed room (read-bytes tokenLimit text)) (stop-injective e)
           (refused-here (rw (eqb-true (n .depth) 0 h) (unmatched c)))
       go false h e = stop-is-not-on (sym e)
   stop-by-class BRACE c r e = token-is-not-stop e
   stop-by-class BLANK c r e = stop-is-not-on (sym e)
   stop-by-class BAD c r e =
-      subst (λ s. Refused (Text s) ≡ surveyed (read tokenLimit room text)) (stop-injective e) (refused-here (bad-byte c))
+      subst (λ s. FaultyText s ≡ surveyed room (read-bytes tokenLimit text)) (stop-injective e) (refused-here (bad-byte c))
 
-  pub survey-stop : (r : TextFault) → Stop r ≡ stepped n (class here) at room → Refused (Text r) ≡ surveyed (read tokenLimit room text)
+  pub survey-stop : (r : TextFault) → Stop r ≡ stepped n (class here) at room → FaultyText r ≡ surveyed room (read-bytes tokenLimit text)
   survey-stop r e = stop-by-class (class here) refl r (sym e)
-
-accepted : {limit k l : ℕ} {text : List ℕ} (room : ℕ) (t : TextRead limit text k) → k ≤ room → length (without-marks OUTSIDE text) ≡ l
-    → Accepted k l ≡ surveyed (read limit room text)
-unfolding surveyed
-accepted room t h e = rw (text-fits room t h) (sym (ap₂ Accepted (t .counted) (ap length (t .printed) ∙ e)))
 
 -- the end of the text
 pub survey-end : {text : List ℕ} {room at : ℕ} {n : Count} → SurveySoFar text room n at → length text ≤ at
-    → finished n at room ≡ surveyed (read tokenLimit room text)
+    → finished n at ≡ surveyed room (read-bytes tokenLimit text)
 unfolding finished surveyed
-survey-end {text} {room} {at} {n} g ended = go (ltb 0 (n .depth)) refl (ltb room (n .cells)) refl
+survey-end {text} {room} {at} {n} g ended = go (ltb 0 (n .depth)) refl
   where
-    end : at ≡ length text
-    end = omega (arith, g .within)
+    last : at ≡ length text
+    last = omega (arith, g .within)
 
     whole : Faultless tokenLimit 0 text (n .depth) (n .cells)
     whole = rw (take-all at text ended) at (g .clean)
 
-    none-open : ltb 0 (n .depth) ≡ false → Faultless tokenLimit 0 text 0 (n .cells)
-    none-open h = let closed-all : n .depth ≡ 0 = (let some = ltb-false 0 (n .depth) h in omega arith) in rw closed-all at whole
-
-    go : (s : Bool) → ltb 0 (n .depth) ≡ s → (t : Bool) → ltb room (n .cells) ≡ t
-        → cond s (Refused (Text (Unclosed (place at)))) (cond t (Refused (Overfull (n .past))) (Accepted (n .cells) (n .length)))
-        ≡ surveyed (read tokenLimit room text)
-    go true h t g′ =
-        let deep : n .depth ≡ suc (n .depth - 1) = (let some-open = ltb-true 0 (n .depth) h in omega arith) in
-        rw (row-refused {limit = tokenLimit} {n = room} (unclosed (rw deep at whole))) (ap (λ k. Refused (Text (Unclosed (place k)))) end)
-    go false h true g′ =
-        let p = g .past (ltb-true room (n .cells) g′) in
+    -- item number `room` of the plan that was read begins where it was noted
+    noted : {p : Plan ℕ} → read-bytes tokenLimit text ≡ PLAN p → cells p ≡ n .cells → (t : Bool) → ltb room (n .cells) ≡ t
+        → n .past ≡ place-of-item room p
+    noted {p} is counted true t =
+        let w = g .past (ltb-true room (n .cells) t) in
         let first = n .past .0 in
-        let inside : first < length text = omega (arith, p .before, g .within) in
-        rw (row-refused {limit = tokenLimit} {n = room}
-        (overfull (take first text) (drop (suc first) text) (getD text first 0) (split-at text first 0 inside) (p .clean) (p .begins) (none-open h)))
-        (ap (λ k. Refused (Overfull (place k))) (sym (length-take-le first text (omega arith))))
-    go false h false g′ =
-        accepted room (text-read (none-open h)) (ltb-false room (n .cells) g′) (ap (λ us. length (without-marks OUTSIDE us)) (sym (take-all at text ended)) ∙ g .keeps)
+        let inside : first < length text = omega (arith, w .before, g .within) in
+        let at-item = item-place tokenLimit (take first text) (drop (suc first) text) (getD text first 0) (w .clean) (w .begins)
+        (ap (read-bytes tokenLimit) (sym (split-at text first 0 inside)) ∙ is) in
+        ap place (sym (length-take-le first text (omega arith)) ∙ sym (at-item .0))
+    noted {p} is counted false t =
+        let few = ltb-false room (n .cells) t in
+        ap place (g .none-past few ∙ sym (List·getD-eq-default (labels p) 0 (omega (arith, length-labels p))))
+
+    go : (s : Bool) → ltb 0 (n .depth) ≡ s
+        → cond s (FaultyText (Unclosed (place at))) (Counted (n .cells) (n .length) (n .past)) ≡ surveyed room (read-bytes tokenLimit text)
+    go true h =
+        let deep : n .depth ≡ suc (n .depth - 1) = (let some-open = ltb-true 0 (n .depth) h in omega arith) in
+        rw (faulty-read {limit = tokenLimit} (unclosed (rw deep at whole))) (ap (λ k. FaultyText (Unclosed (place k))) last)
+    go false h =
+        let closed-all : n .depth ≡ 0 = (let some = ltb-false 0 (n .depth) h in omega arith) in
+        let r = text-read (rw closed-all at whole) in
+        let long : n .length ≡ length (print (r .plan)) =
+        sym (ap (λ us. length (without-marks OUTSIDE us)) (sym (take-all at text ended)) ∙ g .keeps) ∙ sym (ap length (r .printed)) in
+        rw (r .reads) (same-counts (sym (r .counted)) long (noted (r .reads) (r .counted) (ltb room (n .cells)) refl))

@@ -17,30 +17,19 @@ use Rattle.kinds.specs.declared.Place.{Place}
 use Rattle.plan.specs.Plan.{open-brace, close-brace}
 use Rattle.plan.specs.Token.{Name, allowed, annotation, character, may-hold}
 use Rattle.plan.specs.TokenFaults.{FirstFault, unheld}
-use Rattle.plan.specs.Reading.{an-annotation, class, mark, place, read, without-marks}
+use Rattle.plan.specs.Reading.{an-annotation, class, mark, place, read-bytes, without-marks}
 use Rattle.plan.specs.declared.Class.{Class}
 use Rattle.plan.specs.declared.Class.the-variants.{Operator as OPERATOR, Open as OPEN, Close as CLOSE, Brace as BRACE, Blank as BLANK, Bad as BAD}
 use Rattle.plan.specs.Refusals.{nothing, a-token, bad-token}
 use Rattle.plan.specs.declared.Character.{Character}
 use Rattle.plan.specs.declared.Character.the-variants.{Whole, Malformed}
-use Rattle.plan.specs.declared.Refusal.the-variants.{Text}
 use Rattle.plan.specs.declared.TextFault.the-variants.{BadToken, Unmatched}
 use Rattle.plan.specs.declared.TokenFault.{TokenFault}
 use Rattle.plan.specs.declared.TokenFault.the-variants.{Empty, Long, BadUtf8, Forbidden, InnerBrace}
 use Rattle.plan.proofs.Marks.{token-kept}
 use Rattle.plan.proofs.MayHold.{opening}
 use Rattle.plan.proofs.Taken.{Taken, none-yet, scanned-step, scanned-allowed}
-use Rattle.plan.proofs.TokenFaults.{
-  ends-first,
-  forbidden-unheld,
-  low-byte,
-  malformed-first,
-  nothing-first,
-  open-unheld,
-  over-first,
-  reaching-first,
-  unheld-first,
-}
+use Rattle.plan.proofs.TokenFaults.{ends-first, forbidden-unheld, low-byte, malformed-first, nothing-first, open-unheld, over-first, reaching-first, unheld-first}
 use Rattle.plan.proofs.Tests.{never}
 use Rattle.plan.proofs.Tokens.{annotation-of}
 use Rattle.plan.proofs.Utf8.{character-width}
@@ -51,7 +40,7 @@ use Rattle.reader.specs.declared.InToken.{InToken}
 use Rattle.reader.specs.declared.InToken.the-variants.{Further, Ends}
 use Rattle.reader.specs.declared.TokenRead.the-variants.{Whole as WholeToken, Faulty}
 use Rattle.reader.specs.declared.ByteStep.the-variants.{On, Token, Stop}
-use Rattle.reader.specs.declared.Surveyed.the-variants.{Refused}
+use Rattle.reader.specs.declared.Surveyed.the-variants.{Faulty as FaultyText}
 use Rattle.reader.proofs.SurveySoFar.{SurveySoFar, item-more, mark-more, refused-here, token-is-not-on, token-is-not-stop}
 
 -- what an answer says of the next byte of the token whose `{` is at `start`
@@ -165,10 +154,10 @@ module _ {text : List ℕ} {room at end : ℕ} {n : Count} (i′ : TokenSoFar te
 
   -- what comes behind the `{` has a first fault: it is what reading refuses, at its own place
   refused-token : {f g : TokenFault} {k : ℕ} {p : Place} (j : ℕ) → FirstFault tokenLimit (part text at end ++ drop end text) j f → k ≡ suc at + j
-      → faulty f k ≡ Ends (Faulty g p) → Refused (Text (BadToken g p)) ≡ surveyed (read tokenLimit room text)
+      → faulty f k ≡ Ends (Faulty g p) → FaultyText (BadToken g p) ≡ surveyed room (read-bytes tokenLimit text)
   refused-token {f} {g} {k} {p} j first h e =
       let same : BadToken g p ≡ BadToken f (place k) = cc in
-      ap (λ t. Refused (Text t)) (same ∙ ap (λ q. BadToken f (place q)) h)
+      ap (λ t. FaultyText t) (same ∙ ap (λ q. BadToken f (place q)) h)
       ∙ refused-here (i′ .survey) (i′ .starts) (bad-token (i′ .brace) (subst (λ us. FirstFault tokenLimit us j f) (sym bytes-after) first))
 
   room-left : length (part text at end) ≤ tokenLimit - 2
@@ -185,11 +174,11 @@ module _ {text : List ℕ} {room at end : ℕ} {n : Count} (i′ : TokenSoFar te
 
   -- the same of a fault at the next byte
   refused-next : {f g : TokenFault} {k : ℕ} {p : Place} → FirstFault tokenLimit (part text at end ++ drop end text) (length (part text at end)) f
-      → k ≡ end → faulty f k ≡ Ends (Faulty g p) → Refused (Text (BadToken g p)) ≡ surveyed (read tokenLimit room text)
+      → k ≡ end → faulty f k ≡ Ends (Faulty g p) → FaultyText (BadToken g p) ≡ surveyed room (read-bytes tokenLimit text)
   refused-next first h = refused-token (length (part text at end)) first (omega (arith, h, taken, i′ .ahead))
 
   faults : {a : InToken} {f : TokenFault} {p : Place} → NextSays tokenLimit at end text a → a ≡ Ends (Faulty f p)
-      → Refused (Text (BadToken f p)) ≡ surveyed (read tokenLimit room text)
+      → FaultyText (BadToken f p) ≡ surveyed room (read-bytes tokenLimit text)
   faults (text-end l) e =
       refused-next (rw (drop-of-length-le text l) (ends-first (i′ .scanned) room-left)) (omega (arith, i′ .within)) e
   faults (empty l c z) e =
@@ -211,7 +200,7 @@ module _ {text : List ℕ} {room at end : ℕ} {n : Count} (i′ : TokenSoFar te
   faults (further x h l) e = never cc
 
   pub inside-faulty : (f : TokenFault) (p : Place) → Ends (Faulty f p) ≡ in-token tokenLimit at end text
-      → Refused (Text (BadToken f p)) ≡ surveyed (read tokenLimit room text)
+      → FaultyText (BadToken f p) ≡ surveyed room (read-bytes tokenLimit text)
   inside-faulty f p e = faults (said tokenLimit at end text) (sym e)
 
   goes-on : (w : ℕ) {a : InToken} → NextSays tokenLimit at end text a → a ≡ Further w → (1 ≤ w) × TokenSoFar text room n at (end + w)

@@ -7,12 +7,11 @@ use lib.ListN.{length, getD, drop}
 use Rattle.kinds.specs.Limits.{textLimit}
 use Rattle.plan.specs.Plan.{cells, print, open-brace, close-brace}
 use Rattle.plan.specs.Token.{character, may-hold}
-use Rattle.plan.specs.Reading.{Reading, PLAN, REFUSED, place}
+use Rattle.plan.specs.Reading.{FAULT, PLAN, Reading, place, place-of-item}
 use Rattle.plan.specs.declared.Class.{Class}
 use Rattle.plan.specs.declared.Class.the-variants.{Operator as OPERATOR, Open as OPEN, Close as CLOSE, Brace as BRACE, Blank as BLANK, Bad as BAD}
 use Rattle.plan.specs.declared.Character.{Character}
 use Rattle.plan.specs.declared.Character.the-variants.{Whole, Malformed}
-use Rattle.plan.specs.declared.Refusal.the-variants.{Text, Overfull}
 use Rattle.plan.specs.declared.TextFault.the-variants.{BadByte, Unmatched, Unclosed}
 use Rattle.plan.specs.declared.TokenFault.{TokenFault}
 use Rattle.plan.specs.declared.TokenFault.the-variants.{Empty, Long, BadUtf8, Forbidden, InnerBrace}
@@ -23,7 +22,7 @@ use Rattle.reader.specs.declared.TokenRead.the-variants.{Whole as WholeT
 use Rattle.reader.specs.declared.ByteStep.{ByteStep}
 use Rattle.reader.specs.declared.ByteStep.the-variants.{On, Token, Stop}
 use Rattle.reader.specs.declared.Surveyed.{Surveyed}
-use Rattle.reader.specs.declared.Surveyed.the-variants.{Accepted, Refused}
+use Rattle.reader.specs.declared.Surveyed.the-variants.{Counted, Faulty as FaultyText}
 
 -- counts that one more byte cannot push over a u32
 pub record Small (n : Count) : Type 0 where
@@ -86,12 +85,10 @@ in-token limit start at text =
     (cond (eqb at last) (faulty Long at) (in-character last at (character (drop at text)))))
 
 -- the end of the text
-unfoldable pub finished : Count → (at room : ℕ) → Surveyed
-finished n at room =
-    cond (ltb 0 (n .depth)) (Refused (Text (Unclosed (place at))))
-    (cond (ltb room (n .cells)) (Refused (Overfull (n .past))) (Accepted (n .cells) (n .length)))
+unfoldable pub finished : Count → (at : ℕ) → Surveyed
+finished n at = cond (ltb 0 (n .depth)) (FaultyText (Unclosed (place at))) (Counted (n .cells) (n .length) (n .past))
 
--- what a survey says of what reading says
-unfoldable pub surveyed : Reading → Surveyed
-surveyed (PLAN p) = Accepted (cells p) (length (print p))
-surveyed (REFUSED r) = Refused r
+-- what a survey says of what reading says, with so much room for cells
+unfoldable pub surveyed : (room : ℕ) → Reading → Surveyed
+surveyed room (PLAN p) = Counted (cells p) (length (print p)) (place-of-item room p)
+surveyed room (FAULT f) = FaultyText f

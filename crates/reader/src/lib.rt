@@ -1,12 +1,13 @@
 // Reads a text from left to right and counts; no memory is lent. An outer loop over items and an inner loop over a
 // token's bytes, left by a label at the first fault. A token that was read is an item, or an annotation, which counts for
-// nothing. Counting goes on past the room for cells, since the faults of the text come before a plan that is too large.
+// nothing. Counting goes on past the room for cells, since the faults of the text come before a plan that is too large; whether it is,
+// is for the caller to say.
 ghost use mathlib.Core.Path.{_≡_};
 ghost use Prim.Native.Nat.{_+_, _-_, _<_, _≤_};
 ghost use lib.ListN.{length, getD, drop};
 ghost use Rattle.kinds.specs.Limits.{textLimit, tokenLimit};
 ghost use Rattle.plan.specs.Token.{character};
-ghost use Rattle.plan.specs.Reading.{class, mark, read};
+ghost use Rattle.plan.specs.Reading.{class, mark, read-bytes};
 ghost use Rattle.plan.specs.declared.Class.the-variants.{Close as CLOSE};
 ghost use Rattle.text.specs.TokenEnds.{TokenEnds};
 ghost use Rattle.reader.specs.Counting.{Small, nothing-yet, one-item, opened, stepped, kept-or-passed, faulty, in-character, in-token, finished, surveyed};
@@ -14,7 +15,6 @@ use kinds::Place;
 use kinds::Token;
 use plan::Character;
 use plan::Class;
-use plan::Refusal;
 use plan::TextFault;
 use plan::TokenFault;
 use text::OPEN_BRACE;
@@ -53,8 +53,13 @@ pub enum InToken {
 
 // What a text is found to be.
 pub enum Surveyed {
-    Accepted { cells: u32, length: u32 },
-    Refused(Refusal),
+    // No fault: its cells, its printed bytes, and where the first item past the room begins, once there is one.
+    Counted {
+        cells: u32,
+        length: u32,
+        past: Place,
+    },
+    Faulty(TextFault),
 }
 
 fn nothing_yet() -> Count
@@ -201,32 +206,30 @@ fn whole_token(text: &[u8], count: Count, at: usize, end: usize, room: u32) -> C
 }
 
 // The end of the text.
-fn finish(count: Count, at: usize, room: u32) -> Surveyed
+fn finish(count: Count, at: usize) -> Surveyed
     requires { ⌜ at ≤ textLimit ⌝ }
-    ensures { λ r. ⌜ r ≡ finished count at room ⌝ }
+    ensures { λ r. ⌜ r ≡ finished count at ⌝ }
 {
     if 0 < count.depth {
-        return Surveyed::Refused(Refusal::Text(TextFault::Unclosed(Place::new(at))));
+        return Surveyed::Faulty(TextFault::Unclosed(Place::new(at)));
     }
     let past = count.past;
-    if room < count.cells {
-        return Surveyed::Refused(Refusal::Overfull(past));
-    }
-    Surveyed::Accepted {
+    Surveyed::Counted {
         cells: count.cells,
         length: count.length,
+        past,
     }
 }
 
 pub fn survey(text: &[u8], room: u32) -> Surveyed
     requires { ⌜ length (now text) ≤ textLimit ⌝ }
-    ensures { λ r. ⌜ r ≡ surveyed (read tokenLimit room (now (text .entry))) ⌝ }
+    ensures { λ r. ⌜ r ≡ surveyed room (read-bytes tokenLimit (now (text .entry))) ⌝ }
 {
     let mut count = nothing_yet();
     let mut at: usize = 0;
     let fault = 'items: loop {
         if text.len() <= at {
-            return finish(count, at, room);
+            return finish(count, at);
         }
         match read_byte(count, text[at], at, room) {
             ByteStep::On(next) => {
@@ -252,5 +255,5 @@ pub fn survey(text: &[u8], room: u32) -> Surveyed
             }
         }
     };
-    Surveyed::Refused(Refusal::Text(fault))
+    Surveyed::Faulty(fault)
 }

@@ -5,9 +5,9 @@ use mathlib.Core.Path.{_≡_, ap, sym, _∙_, subst}
 use mathlib.Core.Logic.{inl, inr}
 use mathlib.Core.List.{List, [], _∷_, _++_, append-assoc}
 use native.Mathlib.Omega.{arith}
-use Rattle.plan.specs.Frames.{Frame, top, within, plug}
+use Rattle.rules.specs.Frames.{Frame, top, within, plug}
 use Rattle.plan.specs.Plan.{Plan, end, operator, token, block, _then_, labels}
-use Rattle.plan.proofs.Frames.{labels-plug, lefts, rights}
+use Rattle.rules.proofs.Frames.{labels-plug, lefts, rights}
 use Rattle.plan.proofs.Plans.{labels-then}
 use Rattle.memory.specs.Memory.{start, close, ports, Absent, Distinct, Says}
 use Rattle.memory.proofs.Lists.{absent-join, distinct-join}

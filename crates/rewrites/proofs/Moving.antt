@@ -6,10 +6,10 @@ use mathlib.Core.Path.{_≡_, refl, ap, sym, _∙_, subst}
 use mathlib.Core.List.{List, [], _∷_, _++_, append-assoc, append-nil}
 use native.Mathlib.Omega.{arith}
 use lib.ListN.{length, set}
-use Rattle.plan.specs.Frames.{Frame, within, plug}
+use Rattle.rules.specs.Frames.{Frame, within, plug}
 use Rattle.plan.specs.Plan.{Plan, end, operator, block, _then_, labels}
 use Rattle.plan.specs.declared.Operator.{Operator}
-use Rattle.plan.proofs.Frames.{labels-plug, lefts, rights}
+use Rattle.rules.proofs.Frames.{labels-plug, lefts, rights}
 use Rattle.plan.proofs.Plans.{labels-then, then-end}
 use Rattle.memory.specs.Memory.{start, close, link, ports, Linked, Says, Below, Absent, Distinct, Shared, Holds, last-of}
 use Rattle.memory.proofs.Freeing.{distinct-swap, shared-free, shared-swap}

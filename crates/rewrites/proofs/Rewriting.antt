@@ -4,7 +4,7 @@ use Prim.Native.Nat.{ℕ, _≤_, _<_}
 use mathlib.Core.Path.{_≡_, ap, sym, _∙_, subst}
 use mathlib.Core.List.{List, _∷_}
 use native.Mathlib.Omega.{arith}
-use Rattle.plan.specs.Frames.{Frame, lead, plug}
+use Rattle.rules.specs.Frames.{Frame, lead, plug}
 use Rattle.plan.specs.Plan.{Plan, end, operator, block, _then_, bare, cells, labels}
 use Rattle.plan.specs.declared.Operator.{Operator}
 use Rattle.plan.specs.declared.Operator.the-variants.{A as op-a, B as op-b, C as op-c, D as op-d}

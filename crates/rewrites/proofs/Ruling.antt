@@ -3,10 +3,10 @@ use Prim.Native.Nat.{ℕ}
 use mathlib.Core.Path.{_≡_, refl, ap, sym, _∙_, subst}
 use mathlib.Core.Logic.{inl}
 use mathlib.Core.List.{List, _∷_, _++_}
-use Rattle.plan.specs.Frames.{Frame, within, plug}
+use Rattle.rules.specs.Frames.{Frame, within, plug}
 use Rattle.plan.specs.Plan.{Plan, end, operator, block, _then_, bare, labels, relabel}
 use Rattle.plan.specs.declared.Operator.{Operator}
-use Rattle.plan.proofs.Frames.{bare-plug}
+use Rattle.rules.proofs.Frames.{bare-plug}
 use Rattle.plan.proofs.Plans.{relabel-then, then-assoc, then-end}
 use Rattle.memory.specs.Held.{BlockIn}
 use Rattle.memory.specs.Memory.{start, close, ports, Holds, last-of}

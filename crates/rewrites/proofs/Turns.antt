@@ -6,9 +6,9 @@ use mathlib.Core.List.{List, _∷_, _++_}
 use native.Mathlib.Omega.{arith}
 use Rattle.kinds.specs.Limits.{cellLimit}
 use Rattle.kinds.specs.declared.Cell.{Cell}
-use Rattle.plan.specs.Frames.{Frame, within, plug}
+use Rattle.rules.specs.Frames.{Frame, within, plug}
 use Rattle.plan.specs.Plan.{Plan, end, block, _then_, cells, labels}
-use Rattle.plan.proofs.Frames.{cells-plug}
+use Rattle.rules.proofs.Frames.{cells-plug}
 use Rattle.plan.proofs.Plans.{cells-then, then-end}
 use Rattle.memory.specs.Held.{HeldIn, held-numbers}
 use Rattle.memory.specs.Memory.{start, close, ports, whole, Holds, last-of}

@@ -3,7 +3,7 @@
 use Prim.Native.Nat.{ℕ, _≤_}
 use mathlib.Core.Path.{_≡_}
 use mathlib.Core.List.{List}
-use Rattle.plan.specs.Frames.{Frame, plug}
+use Rattle.rules.specs.Frames.{Frame, plug}
 use Rattle.plan.specs.Plan.{Plan, block, _then_, cells}
 use Rattle.memory.specs.Held.{HeldIn, HeldAlike}
 use Rattle.memory.specs.Model.{Lent}

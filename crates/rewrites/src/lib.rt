@@ -3,7 +3,7 @@
 // item is copied but by c, and a cell that leaves the plan is free at once.
 ghost use mathlib.Core.Path.{_≡_};
 ghost use Prim.Native.Nat.{ℕ, _≤_, _<_};
-ghost use Rattle.plan.specs.Frames.{Frame, plug};
+ghost use Rattle.rules.specs.Frames.{Frame, plug};
 ghost use Rattle.plan.specs.Plan.{Plan};
 ghost use Rattle.memory.specs.Held.{HeldAlike, held-numbers};
 ghost use Rattle.memory.specs.Memory.{start, close};

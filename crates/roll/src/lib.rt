@@ -4,7 +4,7 @@ ghost use mathlib.Core.List.{List};
 ghost use mathlib.Core.Option.{some};
 ghost use Prim.Native.Nat.{_≤_, _<_};
 ghost use lib.ListN.{length, drop};
-ghost use Rattle.plan.specs.Services.{standard};
+ghost use Rattle.kinds.specs.Limits.{standard};
 ghost use Rattle.filing.specs.Format.{Entry, listing};
 ghost use Rattle.filing.specs.EntriesStand.{EntriesStand};
 ghost use Rattle.filing.specs.Answers.{by-rules, edition-1, judged, longest, one-entry};

@@ -1,12 +1,13 @@
 // Runs a plan: reads it from standard input, runs it with a quota of 10,000 and 4,096 cells, and writes what is left of it,
 // then a line with the five numbers of the answer. After a refusal there is no text, and the first line is empty. What cannot be
 // read or written is said on standard error.
+use answers::of_run;
 use input::Input;
 use input::read_whole;
 use io::write_all;
 use kinds::Cell;
 use libc::STDOUT_FILENO;
-use telling::tell_numbers;
+use telling::tell_five;
 use telling::tell_printed;
 
 const QUOTA: u32 = 10_000;
@@ -43,14 +44,14 @@ fn look_behind(read: usize) -> Behind {
 
 // Whether all could be written.
 fn run_text(text: &[u8], memory: &mut [u32], output: &mut [u8]) -> bool {
-    let answer = services::run(text, QUOTA, memory, output);
-    if !tell_printed(answer, output) {
+    let numbers = of_run(run::run(text, QUOTA, memory, output));
+    if !tell_printed(numbers, output) {
         return false;
     }
     if !write_all(STDOUT_FILENO, b"\n") {
         return false;
     }
-    if !tell_numbers(answer) {
+    if !tell_five(numbers) {
         return false;
     }
     write_all(STDOUT_FILENO, b"\n")

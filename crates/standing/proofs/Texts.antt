@@ -7,26 +7,27 @@ use mathlib.Core.List.{List}
 use borrow.Author.Tests.{eqb-false, eqb-true}
 use lib.Dec.{eqb}
 use lib.ListN.{length}
-use Rattle.kinds.specs.Limits.{tokenLimit}
+use Rattle.kinds.specs.Limits.{cellLimit, standard, tokenLimit}
 use Rattle.plan.specs.Plan.{Plan, print}
 use Rattle.plan.specs.Pieces.{Shows, pieces}
-use Rattle.plan.specs.Rewriting.{finished}
-use Rattle.plan.specs.Services.{acceptable, reads, standard}
-use Rattle.plan.specs.Reading.{OUTSIDE}
+use Rattle.rules.specs.Rewriting.{finished}
+use Rattle.plan.specs.Read.{acceptable}
+use Rattle.plan.specs.Reading.{OUTSIDE, accept}
+use Rattle.plan.specs.declared.Unread.{Unread}
 use Rattle.plan.proofs.Acceptable.{AcceptableText, acceptable-plan}
 use Rattle.plan.proofs.Faultless.{without-marks-same}
 use Rattle.filing.specs.Rules.{is-finished, is-printed}
 use Rattle.filing.proofs.Texts.{finished-by-plan, printed-by-plan, unacceptable-not-finished, unacceptable-not-printed}
 use Rattle.stored.proofs.Same.{same-false, same-true}
 use Rattle.finished.specs.Pieces.{ShowsPlan}
-use Rattle.asking.specs.Acceptance.{acceptance-of}
-use Rattle.asking.specs.declared.Acceptance.{Acceptance}
-use Rattle.asking.specs.declared.Acceptance.the-variants.{Acceptable, Unacceptable}
-use Rattle.asking.proofs.Asking.{told-acceptable, told-unacceptable}
+use Rattle.read.specs.Accepted.{accepted-as}
+use Rattle.read.specs.declared.Acceptance.{Acceptance}
+use Rattle.read.specs.declared.Acceptance.the-variants.{Accepted, NotRead}
+use Rattle.read.proofs.Accepting.{told-acceptable, told-unacceptable}
 
 module _ (text : List ℕ) where
-  module _ {r : Acceptance} (told : r ≡ acceptance-of (reads standard text)) where
-    module _ {l : ℕ} (is : r ≡ Acceptable l) where
+  module _ {r : Acceptance} (told : r ≡ accepted-as (accept standard cellLimit text)) where
+    module _ {c l : ℕ} (is : r ≡ Accepted c l) where
       known : AcceptableText standard text
       known = acceptable-plan standard text (told-acceptable text told is .0)
 
@@ -49,7 +50,7 @@ module _ (text : List ℕ) where
           go true h = printed-whole (eqb-true l (length text) h)
           go false h = printed-not (eqb-false l (length text) h)
 
-    pub printed-refused : r ≡ Unacceptable → false ≡ is-printed standard text
+    pub printed-refused : {u : Unread} → r ≡ NotRead u → false ≡ is-printed standard text
     printed-refused e = sym (unacceptable-not-printed standard text (told-unacceptable text told e))
 
   module _ {t : Bool} (told : t ≡ acceptable standard text) where

@@ -3,20 +3,20 @@ ghost use mathlib.Core.Path.{_≡_};
 ghost use mathlib.Core.List.{List, reverse};
 ghost use Prim.Native.Nat.{_≤_};
 ghost use lib.ListN.{length};
-ghost use Rattle.plan.specs.Services.{standard};
+ghost use Rattle.kinds.specs.Limits.{standard};
 ghost use Rattle.filing.specs.Format.{Entry};
 ghost use Rattle.stored.specs.Same.{same};
 ghost use Rattle.filing.specs.Rules.{digits, is-finished, is-job, is-printed, newest, standing};
 ghost use Rattle.filing.specs.EntriesStand.{EntriesStand};
 ghost use Rattle.entries.specs.Entries.{EntryWithin, SpanWithin, part, says-told};
 ghost use Rattle.standing.specs.Looking.{StandingWithin, standing-told};
-use asking::Acceptance;
-use asking::acceptance_of;
-use asking::is_acceptable;
 use entries::EntryAt;
 use entries::Span;
 use entries::entry_at;
 use entries::next_of;
+use read::Acceptance;
+use read::acceptance_of;
+use read::is_acceptable;
 
 // The bytes `0` to `9`, and nothing else.
 fn are_digits(job: &[u8]) -> bool
@@ -53,8 +53,8 @@ pub fn is_printed(text: &[u8]) -> bool
     ensures { λ r. ⌜ r ≡ is-printed standard (now (text .entry)) ⌝ }
 {
     match acceptance_of(text) {
-        Acceptance::Acceptable { length } => length as usize == text.len(),
-        Acceptance::Unacceptable => false,
+        Acceptance::Accepted { cells, length } => length as usize == text.len(),
+        Acceptance::NotRead(why) => false,
     }
 }
 

@@ -1,14 +1,11 @@
 // Writes to standard output: what a service answered, as the five numbers of document 01 and the printed text, and plain words and
 // counts.
-ghost use mathlib.Core.Path.{_≡_};
 ghost use Prim.Native.Nat.{_≤_};
 ghost use lib.ListN.{length};
-ghost use Rattle.plan.specs.Services.{numbers};
 use io::print_decimal;
 use io::write_all;
 use libc::STDOUT_FILENO;
-use plan::Answer;
-use plan::Numbers;
+use numbers::Numbers;
 
 // What could not be written is said on standard error.
 pub fn mind(written: bool) {
@@ -53,22 +50,10 @@ pub fn tell_five(numbers: Numbers) -> bool {
     tell_next(numbers.place)
 }
 
-pub fn tell_numbers(answer: Answer) -> bool {
-    tell_five(answer.numbers())
-}
-
-// How many bytes of the output are the printed text; a refusal has none.
-pub fn printed_length(answer: Answer) -> usize
-    ensures { λ r. ⌜ r ≡ numbers answer .length ⌝ }
-{
-    let numbers = answer.numbers();
-    numbers.length as usize
-}
-
 // The printed text, which the output holds first; whether all of it could be written.
-pub fn tell_printed(answer: Answer, output: &[u8]) -> bool
-    requires { ⌜ numbers answer .length ≤ length (now output) ⌝ }
+pub fn tell_printed(numbers: Numbers, output: &[u8]) -> bool
+    requires { ⌜ numbers .length ≤ length (now output) ⌝ }
 {
-    let length = printed_length(answer);
+    let length = numbers.length as usize;
     write_all(STDOUT_FILENO, &output[0..length])
 }

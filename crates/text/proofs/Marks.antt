@@ -9,14 +9,7 @@ use lib.Seq.{drop-cons}
 use Rattle.plan.specs.Token.{ampersand, annotation}
 use Rattle.plan.specs.Reading.{mark}
 use Rattle.plan.specs.declared.Class.{Class}
-use Rattle.plan.specs.declared.Class.the-variants.{
-  Operator as OPERATOR,
-  Open as OPEN,
-  Close as CLOSE,
-  Brace as BRACE,
-  Blank as BLANK,
-  Bad as BAD,
-}
+use Rattle.plan.specs.declared.Class.the-variants.{Operator as OPERATOR, Open as OPEN, Close as CLOSE, Brace as BRACE, Blank as BLANK, Bad as BAD}
 use Rattle.plan.specs.declared.Operator.{Operator}
 
 module _ (text : List ℕ) (from : ℕ) where

@@ -6,6 +6,7 @@ ghost use lib.ListN.{length, getD, drop};
 ghost use Rattle.plan.specs.Reading.{class, mark};
 ghost use Rattle.plan.specs.Token.{annotation, character, may-hold, value, well-formed};
 ghost use Rattle.text.specs.Continued.{continued, Room};
+use pieces::class_of_number;
 use plan::Character;
 use plan::Class;
 
@@ -15,7 +16,7 @@ mod classes;
 pub fn class_of(byte: u8) -> Class
     ensures { λ r. ⌜ r ≡ class byte ⌝ }
 {
-    Class::of(classes::CLASSES[byte as usize])
+    class_of_number(classes::CLASSES[byte as usize])
 }
 
 // Whether a token's text, which begins at a place, is that of an annotation.

@@ -1,3 +1,2 @@
-pub mod Linking
 pub mod Rolls
 pub mod Stored

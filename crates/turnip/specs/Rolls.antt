@@ -6,17 +6,11 @@ use lib.ListN.{getD, set}
 use Rattle.filing.specs.Answers.{Added, grown, roll-numbers}
 use Rattle.filing.specs.declared.EntryAnswer.{EntryAnswer}
 use Rattle.filing.specs.declared.EntryAnswer.the-variants.{Found, NoEntry, TooLong}
-use Rattle.filing.specs.declared.RollAnswer.{RollAnswer}
 use Rattle.filing.specs.declared.RollNumbers.{RollNumbers}
 
 -- the order in which the array has them
 abbrev pub five-of-roll : RollNumbers → List ℕ
 five-of-roll n = n .number ∷ n .entries ∷ n .filed ∷ n .done ∷ n .place ∷ []
-
-pub record RollAnswers (Did : RollAnswer → Type 0) (stored : List ℕ) : Type 0 where
-  pub answer : RollAnswer
-  pub did : Did answer
-  pub told : stored ≡ five-of-roll (roll-numbers answer)
 
 -- one entry: the number, then where its job number and its text stand, and their bytes
 abbrev pub five-of-entry : EntryAnswer → List ℕ

@@ -1,17 +1,18 @@
 // The services for programs in C and other languages: include/turnip.h declares and explains these functions. Each asks nothing
-// of its caller and tells the service's answer by five numbers; its contract is the service's (specs/Stored.antt, specs/Rolls.antt,
-// specs/Linking.antt).
+// of its caller and tells the service's answer by five numbers; its contract is the service's (specs/Stored.antt, specs/Rolls.antt).
 ghost use mathlib.Core.Path.{_≡_};
 ghost use lib.ListN.{getD, set};
-ghost use Rattle.plan.specs.Services.{numbers};
-ghost use Rattle.services.specs.Calls.{ReadsOut, Runs};
+ghost use Rattle.answers.specs.Run.{run-numbers};
+ghost use Rattle.numbers.specs.Numbers.{read-numbers};
+ghost use Rattle.read.specs.Calls.{ReadsOut};
+ghost use Rattle.run.specs.Calls.{Runs};
 ghost use Rattle.filing.specs.Answers.{close-job, edition-1, file, grown, one-entry, roll-numbers};
 ghost use Rattle.roll.specs.Calls.{Lists};
 ghost use Rattle.words.specs.Answers.{link-numbers};
 ghost use Rattle.linking.specs.Calls.{Links};
-ghost use Rattle.turnip.specs.Linking.{LinkAnswers};
-ghost use Rattle.turnip.specs.Rolls.{AddsStored, RollAnswers, five-of-entry, five-of-roll};
+ghost use Rattle.turnip.specs.Rolls.{AddsStored, five-of-entry, five-of-roll};
 ghost use Rattle.turnip.specs.Stored.{Answers, five};
+use answers::of_run;
 use filing::EntryAnswer;
 use filing::RollAnswer;
 use filing::Tally;
@@ -19,27 +20,21 @@ use keeping::Entered;
 use keeping::done_entry;
 use keeping::file_entry;
 use keeping::with_entry;
-use plan::Answer;
-use plan::Numbers;
-use words::LinkAnswer;
+use numbers::Numbers;
+use numbers::of_read;
+use words::of_link;
 
-fn store_numbers(told: Numbers, answer: &mut [u32; 5])
+fn store(told: Numbers, answer: &mut [u32; 5])
     ensures { λ _. ⌜ now (answer .exit) ≡ five told ⌝ }
 {
     *answer = [told.number, told.steps, told.cells, told.length, told.place];
 }
 
-fn store(given: Answer, answer: &mut [u32; 5])
-    ensures { λ _. ⌜ now (answer .exit) ≡ five (numbers given) ⌝ }
-{
-    store_numbers(given.numbers(), answer);
-}
-
 #[no_mangle]
 pub extern "C" fn turnip_read(text: &[u8], out: &mut [u8], answer: &mut [u32; 5])
-    ensures { λ _. ⌜ Answers (λ r. ReadsOut (now (text .entry)) (now (out .entry)) r (now (out .exit))) (now (answer .exit)) ⌝ }
+    ensures { λ _. ⌜ Answers (λ r. five (read-numbers r)) (λ r. ReadsOut (now (text .entry)) (now (out .entry)) r (now (out .exit))) (now (answer .exit)) ⌝ }
 {
-    store(services::read(text, out), answer);
+    store(of_read(read::read(text, out)), answer);
 }
 
 #[no_mangle]
@@ -50,9 +45,9 @@ pub extern "C" fn turnip_run(
     out: &mut [u8],
     answer: &mut [u32; 5],
 )
-    ensures { λ _. ⌜ Answers (λ r. Runs (now (text .entry)) quota (now (memory .entry)) (now (out .entry)) r (now (memory .exit)) (now (out .exit))) (now (answer .exit)) ⌝ }
+    ensures { λ _. ⌜ Answers (λ r. five (run-numbers r)) (λ r. Runs (now (text .entry)) quota (now (memory .entry)) (now (out .entry)) r (now (memory .exit)) (now (out .exit))) (now (answer .exit)) ⌝ }
 {
-    store(services::run(text, quota, memory, out), answer);
+    store(of_run(run::run(text, quota, memory, out)), answer);
 }
 
 fn store_roll(given: RollAnswer, answer: &mut [u32; 5])
@@ -64,7 +59,7 @@ fn store_roll(given: RollAnswer, answer: &mut [u32; 5])
 
 #[no_mangle]
 pub extern "C" fn turnip_roll_read(roll: &[u8], list: &mut [u32], answer: &mut [u32; 5])
-    ensures { λ _. ⌜ RollAnswers (λ r. Lists (now (roll .entry)) (now (list .entry)) r (now (list .exit))) (now (answer .exit)) ⌝ }
+    ensures { λ _. ⌜ Answers (λ r. five-of-roll (roll-numbers r)) (λ r. Lists (now (roll .entry)) (now (list .entry)) r (now (list .exit))) (now (answer .exit)) ⌝ }
 {
     store_roll(roll::read(roll, list), answer);
 }
@@ -138,15 +133,9 @@ pub extern "C" fn turnip_roll_done(
     store_entered(entered, tally, answer);
 }
 
-fn store_linked(given: LinkAnswer, answer: &mut [u32; 5])
-    ensures { λ _. ⌜ now (answer .exit) ≡ five (link-numbers given) ⌝ }
-{
-    store_numbers(given.numbers(), answer);
-}
-
 #[no_mangle]
 pub extern "C" fn turnip_link(list: &[u8], text: &[u8], out: &mut [u8], answer: &mut [u32; 5])
-    ensures { λ _. ⌜ LinkAnswers (λ r. Links (now (list .entry)) (now (text .entry)) (now (out .entry)) r (now (out .exit))) (now (answer .exit)) ⌝ }
+    ensures { λ _. ⌜ Answers (λ r. five (link-numbers r)) (λ r. Links (now (list .entry)) (now (text .entry)) (now (out .entry)) r (now (out .exit))) (now (answer .exit)) ⌝ }
 {
-    store_linked(linking::link(list, text, out), answer);
+    store(of_link(linking::link(list, text, out)), answer);
 }

@@ -11,25 +11,9 @@ use borrow.Author.Tests.{ltb-false}
 use lib.Dec.{ltb}
 use lib.ListN.{length, take}
 use lib.Seq.{take-take}
-use Rattle.plan.specs.Services.{standard}
+use Rattle.kinds.specs.Limits.{standard}
 use Rattle.pieces.specs.Written.{put-at}
-use Rattle.filing.specs.Answers.{
-  Added,
-  Judged,
-  READS,
-  REFUSES,
-  add-to,
-  edition-1,
-  in-use,
-  judged,
-  listed-as,
-  longest,
-  new-bytes,
-  new-entry,
-  not-added,
-  roll-numbers,
-  roll-refusal-number,
-}
+use Rattle.filing.specs.Answers.{Added, Judged, READS, REFUSES, add-to, edition-1, in-use, judged, listed-as, longest, new-bytes, new-entry, not-added, roll-numbers, roll-refusal-number}
 use Rattle.filing.proofs.Adding.{entry-made, fault-first, room-last, roll-first}
 use Rattle.filing.specs.Format.{Entry}
 use Rattle.filing.specs.Rules.{counts-done, counts-filed, obeys, says}

@@ -9,7 +9,7 @@ use native.Mathlib.Omega.{arith}
 use borrow.Author.Tests.{ne-eqb}
 use lib.ListN.{length, take, drop, length-append, length-take}
 use lib.Seq.{drop-append-le, drop-append-seam, drop-length, take-append-seam, take-take}
-use Rattle.plan.specs.Services.{standard}
+use Rattle.kinds.specs.Limits.{standard}
 use Rattle.pieces.specs.Written.{put-at}
 use Rattle.stored.specs.Counted.{FRONT}
 use Rattle.filing.specs.Answers.{edition-1, entry-bytes, longest, new-bytes, new-entry}

@@ -11,7 +11,7 @@ use borrow.Author.Tests.{le-ltb}
 use lib.ListN.{length, length-append, take}
 use Rattle.kinds.specs.Limits.{tokenLimit}
 use Rattle.plan.specs.Reading.{HoldsAnnotation}
-use Rattle.plan.specs.Services.{standard}
+use Rattle.kinds.specs.Limits.{standard}
 use Rattle.plan.proofs.Annotations.{print-no-annotation}
 use Rattle.plan.proofs.Tests.{and-false, never}
 use Rattle.filing.specs.Answers.{Added, READS, REFUSES, Read, add-to, by-rules, edition-1, file, filing-fault, in-use, judged, longest, roll-numbers, unbroken}

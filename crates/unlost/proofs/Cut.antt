@@ -11,7 +11,7 @@ use borrow.Author.Tests.{le-leb, lt-leb}
 use lib.Dec.{leb}
 use lib.ListN.{length, take, drop, length-append, length-drop, length-take, take-append-drop}
 use lib.Seq.{take-all, take-append-add, take-append-le}
-use Rattle.plan.specs.Services.{standard}
+use Rattle.kinds.specs.Limits.{standard}
 use Rattle.stored.specs.Counted.{AtFront, CUT, FRONT, number, then-read}
 use Rattle.stored.proofs.Counted.{never}
 use Rattle.filing.specs.Format.{Entry, entry}

@@ -9,9 +9,9 @@ use native.Mathlib.Omega.{arith}
 use lib.ListN.{length, length-append}
 use Rattle.kinds.specs.Limits.{cellLimit}
 use Rattle.plan.specs.Plan.{bare}
-use Rattle.plan.specs.Rewriting.{finished}
-use Rattle.plan.specs.Services.{standard}
-use Rattle.plan.proofs.Rewrites.{finished-relabel, finished-when}
+use Rattle.rules.specs.Rewriting.{finished}
+use Rattle.kinds.specs.Limits.{standard}
+use Rattle.rules.proofs.Rewrites.{finished-relabel, finished-when}
 use Rattle.plan.proofs.Tests.{never}
 use Rattle.filing.specs.Format.{Entry}
 use Rattle.stored.specs.Same.{same}
@@ -97,7 +97,7 @@ finished-reads text e =
     let (a, stuck) = finished-text standard text e in
     record {
       plan = bare (a .plan);
-      reads = record { placed = a .plan; accepted = a .accepted; same = refl };
+      reads = record { within = omega arith; placed = a .plan; accepted = a .accepted; same = refl };
       finished = finished-when (bare (a .plan)) .0 (finished-relabel (λ l. tt) (a .plan) ∙ stuck);
     }
 

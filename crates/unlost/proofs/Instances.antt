@@ -8,55 +8,16 @@ use lib.ListN.{take, replicate}
 use Rattle.plan.specs.Options.{_else_, is-none, under}
 use Rattle.plan.specs.Plan.{cells, labels, letter, print, _then_}
 use Rattle.plan.specs.Token.{annotation, follows, scalar, value, well-formed, all-permitted, allowed, before-brace, character, if-allowed, may-hold, permits, token-text}
-use Rattle.plan.specs.Reading.{class, fit, go-on, mark, move, past-token, plan-in, plan-of, read, read-from}
-use Rattle.plan.specs.Rewriting.{after-two, finished, first-block, inner, next, outer}
-use Rattle.plan.specs.Services.{accept, acceptable, as-read, is-given, reads}
-use Rattle.plan.specs.Worked.{bytes}
+use Rattle.plan.specs.Outcomes.{is-given}
+use Rattle.plan.specs.Reading.{accept, class, fit, go-on, mark, move, past-token, plan-in, plan-of, read-from, read-text}
+use Rattle.rules.specs.Rewriting.{after-two, finished, first-block, inner, next, outer}
+use Rattle.plan.specs.Read.{acceptable, as-read, reads}
+use Rattle.numbers.specs.Rows.{bytes}
 use Rattle.stored.specs.Counted.{counted, four-bytes, number, so-many, then-read, with-count}
 use Rattle.filing.specs.Format.{Entry, entry, listed, listing, roll, sections, with-first}
-use Rattle.filing.specs.Rules.{
-  broken,
-  counts-done,
-  counts-filed,
-  digits,
-  done,
-  filed,
-  is-finished,
-  is-job,
-  is-new,
-  is-printed,
-  may-close,
-  may-file,
-  newest,
-  obeys,
-  says,
-  standing,
-}
+use Rattle.filing.specs.Rules.{broken, counts-done, counts-filed, digits, done, filed, is-finished, is-job, is-new, is-printed, may-close, may-file, newest, obeys, says, standing}
 use Rattle.stored.specs.Same.{same}
-use Rattle.filing.specs.Answers.{
-  add-to,
-  after-done,
-  by-rules,
-  close-job,
-  closing-fault,
-  edition-1,
-  entry-bytes,
-  file,
-  fill,
-  filing-fault,
-  grown,
-  in-use,
-  judged,
-  new-bytes,
-  no-room,
-  places,
-  read-roll,
-  roll-numbers,
-  sections-bytes,
-  unbroken,
-  unfinished,
-  unless,
-}
+use Rattle.filing.specs.Answers.{add-to, after-done, by-rules, close-job, closing-fault, edition-1, entry-bytes, file, fill, filing-fault, grown, in-use, judged, new-bytes, no-room, places, read-roll, roll-numbers, sections-bytes, unbroken, unfinished, unless}
 use Rattle.filing.specs.declared.RollAnswer.the-variants.{Listed, Refused}
 use Rattle.filing.specs.declared.RollRefusal.the-variants.{BadRoll, BadText, Unfinished}
 use Rattle.filing.specs.declared.Tally.{Tally}
@@ -123,7 +84,7 @@ pub calls : Adds (file edition-1 buffer 0 job ended) (tally 0 0) (Listed 1 1 0 2
     × Lists (take 60 three) (replicate 4 9) (Listed 3 2 1 60) (1 ∷ 24 ∷ 33 ∷ 9 ∷ []) × Lists buffer (replicate 4 9) (Refused (BadRoll 0)) (replicate 4 9)
     × Adds (file edition-1 one 24 other-job annotated) (tally 1 0) (Refused BadText) one (tally 1 0)
     × Lists (1 ∷ annotated-filed) (replicate 4 9) (Refused (BadRoll 1)) (replicate 4 9)
-unfolding read-roll fill places file close-job add-to in-use judged by-rules unbroken unless no-room filing-fault closing-fault unfinished after-done grown new-bytes entry-bytes sections-bytes with-count four-bytes roll listing listed with-first entry sections counted number so-many then-read broken obeys says same digits is-job is-printed is-finished acceptable is-given reads as-read plan-of plan-in standing newest may-file may-close is-new counts-filed counts-done filed done finished is-none next outer inner first-block after-two under _else_ accept read read-from go-on move past-token mark annotation fit class token-text if-allowed before-brace allowed all-permitted permits may-hold character value follows scalar well-formed cells labels print letter _then_ bytes
+unfolding read-roll fill places file close-job add-to in-use judged by-rules unbroken unless no-room filing-fault closing-fault unfinished after-done grown new-bytes entry-bytes sections-bytes with-count four-bytes roll listing listed with-first entry sections counted number so-many then-read broken obeys says same digits is-job is-printed is-finished acceptable is-given reads as-read plan-of plan-in standing newest may-file may-close is-new counts-filed counts-done filed done finished is-none next outer inner first-block after-two under _else_ accept read-text read-from go-on move past-token mark annotation fit class token-text if-allowed before-brace allowed all-permitted permits may-hold character value follows scalar well-formed cells labels print letter _then_ bytes
 calls = (
   record { answer = refl; bytes = refl; filed = refl; done = refl },
   record { answer = refl; bytes = refl; filed = refl; done = refl },
@@ -157,7 +118,7 @@ an-adding-stored =
 -- `RollReads`, of the whole and of a part that is cut in the last entry
 pub a-roll : RollReads (take 60 three) (filing ∷ closing ∷ later ∷ []) 60 × RollReads (take 59 three) (filing ∷ closing ∷ []) 33
     × RollReads (take 24 one) (filing ∷ []) 24
-unfolding whole-in torn-from entry-end sections-size judged by-rules unbroken roll listing listed with-first entry sections counted number so-many then-read broken obeys says same digits is-job is-printed is-finished acceptable is-given reads as-read plan-of plan-in standing newest may-file may-close finished is-none next outer inner first-block after-two under _else_ accept read read-from go-on move past-token mark annotation fit class token-text if-allowed before-brace allowed all-permitted permits may-hold character value follows scalar well-formed cells labels print letter _then_ bytes
+unfolding whole-in torn-from entry-end sections-size judged by-rules unbroken roll listing listed with-first entry sections counted number so-many then-read broken obeys says same digits is-job is-printed is-finished acceptable is-given reads as-read plan-of plan-in standing newest may-file may-close finished is-none next outer inner first-block after-two under _else_ accept read-text read-from go-on move past-token mark annotation fit class token-text if-allowed before-brace allowed all-permitted permits may-hold character value follows scalar well-formed cells labels print letter _then_ bytes
 a-roll = (refl, cut-reads (take 60 three) {es = filing ∷ closing ∷ later ∷ []} {end = 60} refl 59, refl)
 
 -- `ListedAs` and `Unlisted`

@@ -7,7 +7,7 @@ use mathlib.Core.Option.{Option, none}
 use mathlib.Core.List.{List, [], _∷_, _++_, reverse, reverse-append}
 use native.Mathlib.Omega.{arith}
 use lib.ListN.{length, take, length-reverse, length-take}
-use Rattle.plan.specs.Services.{standard}
+use Rattle.kinds.specs.Limits.{standard}
 use Rattle.filing.specs.Answers.{Added, add-to, close-job, closing-fault, edition-1, file, filing-fault, grown, in-use, longest, new-entry, roll-numbers}
 use Rattle.filing.specs.Format.{Entry}
 use Rattle.filing.proofs.Growing.{grown-below}

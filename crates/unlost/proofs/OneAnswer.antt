@@ -7,7 +7,8 @@ use Rattle.filing.specs.declared.RollAnswer.{RollAnswer}
 use Rattle.filing.specs.declared.Tally.{Tally}
 use Rattle.roll.specs.Calls.{Lists}
 use Rattle.keeping.specs.Calls.{Adds}
-use Rattle.turnip.specs.Rolls.{AddsStored, RollAnswers, five-of-entry, five-of-roll}
+use Rattle.turnip.specs.Rolls.{AddsStored, five-of-entry, five-of-roll}
+use Rattle.turnip.specs.Stored.{Answers}
 
 pub read-one-answer : {roll list : List ℕ} {r s : RollAnswer} {a b : List ℕ} → Lists roll list r a → Lists roll list s b → (r ≡ s) × (a ≡ b)
 read-one-answer g h = (g .answer ∙ sym (h .answer), g .places ∙ sym (h .places))
@@ -18,7 +19,7 @@ add-one-answer g h =
     (g .answer ∙ sym (h .answer), g .bytes ∙ sym (h .bytes), ap₂ (λ (f d : ℕ). record { filed = f; done = d }) (g .filed ∙ sym (h .filed)) (g .done ∙ sym (h .done)))
 
 -- Over the C interface as well.
-pub read-stored-once : {roll list a b stored stored₂ : List ℕ} → RollAnswers (λ r. Lists roll list r a) stored → RollAnswers (λ r. Lists roll list r b) stored₂
+pub read-stored-once : {roll list a b stored stored₂ : List ℕ} → Answers (λ r. five-of-roll (roll-numbers r)) (λ r. Lists roll list r a) stored → Answers (λ r. five-of-roll (roll-numbers r)) (λ r. Lists roll list r b) stored₂
     → (stored ≡ stored₂) × (a ≡ b)
 read-stored-once g h =
     let same = read-one-answer (g .did) (h .did) in (g .told ∙ ap (λ r. five-of-roll (roll-numbers r)) (same .0) ∙ sym (h .told), same .1)

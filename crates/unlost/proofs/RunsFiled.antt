@@ -11,11 +11,12 @@ use borrow.Author.Tests.{le-ltb}
 use lib.ListN.{length, take}
 use Rattle.kinds.specs.Limits.{cellLimit}
 use Rattle.plan.specs.Plan.{print}
-use Rattle.plan.specs.Rewriting.{finished}
-use Rattle.plan.specs.Services.{numbers, standard}
-use Rattle.plan.specs.declared.Answer.{Answer}
+use Rattle.rules.specs.Rewriting.{finished}
+use Rattle.answers.specs.Run.{run-numbers}
+use Rattle.kinds.specs.Limits.{standard}
+use Rattle.answers.specs.declared.RunAnswer.{RunAnswer}
 use Rattle.plan.proofs.Plans.{print-relabel}
-use Rattle.plan.proofs.Rewrites.{finished-relabel, finished-when}
+use Rattle.rules.proofs.Rewrites.{finished-relabel, finished-when}
 use Rattle.plan.proofs.Tests.{never, false-is-not-true}
 use Rattle.filing.specs.Answers.{Added, READS, add-to, after-done, close-job, closing-fault, edition-1, file, filing-fault, in-use, longest, new-bytes, new-entry, roll-numbers, unfinished, Edition, Judged, REFUSES, by-rules, judged, roll-refusal-number, unbroken}
 use Rattle.filing.proofs.Adding.{entry-made, fault-first, room-last, roll-first}
@@ -27,7 +28,7 @@ use Rattle.filing.specs.Rules.{is-finished, is-job, is-printed, newest, says, s
 use Rattle.filing.specs.declared.RollAnswer.{RollAnswer}
 use Rattle.filing.specs.declared.RollRefusal.the-variants.{BadJob, BadText, Unfinished, AlreadyDone, BadRoll, TooLong}
 use Rattle.filing.specs.declared.Tally.{Tally}
-use Rattle.services.specs.Calls.{Runs}
+use Rattle.run.specs.Calls.{Runs}
 use Rattle.keeping.specs.Calls.{Adds}
 use Rattle.demands.specs.Words.{Bare, NoRuleApplies, READ, Reads, Rewritten, Unrefused, lent, saved}
 use Rattle.demands.specs.Words as demanded
@@ -193,17 +194,17 @@ module _ (buffer : List ℕ) (used : ℕ) (job text : List ℕ) (printed : is-pr
       by-length false e = not-badtext (judged edition-1 (take used buffer)) (λ q is. refused-roll edition-1 (take used buffer) is) e
 
 -- the text that a run saved
-module _ {text : List ℕ} {quota : ℕ} {memory out : List ℕ} {r : Answer} {memory′ out′ : List ℕ} (call : Runs text quota memory out r memory′ out′) (unrefused : Unrefused r) where
-  its : (q : Bare) × Rewritten (lent memory) text (numbers r .steps) q × (saved r out′ ≡ print q)
+module _ {text : List ℕ} {quota : ℕ} {memory out : List ℕ} {r : RunAnswer} {memory′ out′ : List ℕ} (call : Runs text quota memory out r memory′ out′) (unrefused : Unrefused (run-numbers r)) where
+  its : (q : Bare) × Rewritten (lent memory) text (run-numbers r .steps) q × (saved (run-numbers r) out′ ≡ print q)
   its = reads-rewrites-prints call unrefused
 
-  reads : Reads cellLimit (saved r out′) (its .0)
+  reads : Reads cellLimit (saved (run-numbers r) out′) (its .0)
   reads = let back = text-reads-back call unrefused (its .1) in let few = sound-cells (meanings.reads-sound back) in reads-with-more cellLimit (few .1) (omega arith) back
 
-  pub saved-is-printed : is-printed standard (saved r out′) ≡ true
+  pub saved-is-printed : is-printed standard (saved (run-numbers r) out′) ≡ true
   saved-is-printed = printed-is reads (its .2)
 
-  saved-finished : (numbers r .number ≡ demanded.DONE) ↔ (is-finished standard (saved r out′) ≡ true)
+  saved-finished : (run-numbers r .number ≡ demanded.DONE) ↔ (is-finished standard (saved (run-numbers r) out′) ≡ true)
   saved-finished =
       let d = done-exactly-when call unrefused (its .1) in
       let f = is-finished-when reads in
@@ -211,20 +212,20 @@ module _ {text : List ℕ} {quota : ℕ} {memory out : List ℕ} {r : Answer} {m
 
   -- its text is not refused as one
   pub run-can-be-filed : (buffer : List ℕ) (used : ℕ) (job : List ℕ) {tally : Tally} {a : RollAnswer} {buffer′ : List ℕ} {tally′ : Tally}
-      → Adds (file edition-1 buffer used job (saved r out′)) tally a buffer′ tally′ → roll-numbers a .number ≢ BADTEXT
-  run-can-be-filed buffer used job filing = printed-not-refused buffer used job (saved r out′) saved-is-printed filing
+      → Adds (file edition-1 buffer used job (saved (run-numbers r) out′)) tally a buffer′ tally′ → roll-numbers a .number ≢ BADTEXT
+  run-can-be-filed buffer used job filing = printed-not-refused buffer used job (saved (run-numbers r) out′) saved-is-printed filing
 
   -- in every roll where it is the last that was filed of a job:
-  module _ (buffer : List ℕ) (used : ℕ) (job : List ℕ) {es : List Entry} {end place : ℕ} (reads-so : RollReads (take used buffer) es end) (last : FiledLast job (saved r out′) es place)
+  module _ (buffer : List ℕ) (used : ℕ) (job : List ℕ) {es : List Entry} {end place : ℕ} (reads-so : RollReads (take used buffer) es end) (last : FiledLast job (saved (run-numbers r) out′) es place)
       (short : length buffer ≤ longest) {tally : Tally} {b : RollAnswer} {buffer′ : List ℕ} {tally′ : Tally} (closing : Adds (close-job edition-1 buffer used job) tally b buffer′ tally′) where
     -- a DONE text can be marked done, where there is room
-    pub done-can-be-marked : numbers r .number ≡ demanded.DONE → roll-numbers b .number ≢ NOROOM → roll-numbers b .number ≡ READ
-    done-can-be-marked e = finished-closes buffer used job (saved r out′) reads-so last short closing (saved-finished .0 e)
+    pub done-can-be-marked : run-numbers r .number ≡ demanded.DONE → roll-numbers b .number ≢ NOROOM → roll-numbers b .number ≡ READ
+    done-can-be-marked e = finished-closes buffer used job (saved (run-numbers r) out′) reads-so last short closing (saved-finished .0 e)
 
     -- and no other can
-    pub others-cannot : numbers r .number ≢ demanded.DONE → (roll-numbers b .number ≡ UNFINISHED) × (roll-numbers b .place ≡ place)
-    others-cannot e = unfinished-stays buffer used job (saved r out′) reads-so last short closing (go (is-finished standard (saved r out′)) refl)
+    pub others-cannot : run-numbers r .number ≢ demanded.DONE → (roll-numbers b .number ≡ UNFINISHED) × (roll-numbers b .place ≡ place)
+    others-cannot e = unfinished-stays buffer used job (saved (run-numbers r) out′) reads-so last short closing (go (is-finished standard (saved (run-numbers r) out′)) refl)
       where
-        go : (t : Bool) → is-finished standard (saved r out′) ≡ t → is-finished standard (saved r out′) ≡ false
+        go : (t : Bool) → is-finished standard (saved (run-numbers r) out′) ≡ t → is-finished standard (saved (run-numbers r) out′) ≡ false
         go true h = absurd (e (saved-finished .1 h))
         go false h = h

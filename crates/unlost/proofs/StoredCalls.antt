@@ -1,5 +1,5 @@
 -- A call over the C interface is a call of the service, with its answer and its tally told by numbers: so every theorem of the roll holds
--- of it. Reading has the service's call in `RollAnswers`; adding has it here.
+-- of it. Reading has the service's call in `Answers`; adding has it here.
 use Prim.Native.Nat.{ℕ}
 use mathlib.Core.Path.{_≡_, refl}
 use mathlib.Core.List.{List, [], _∷_}

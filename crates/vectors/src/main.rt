@@ -14,6 +14,7 @@ mod report;
 
 ghost use Prim.Native.Nat.{_<_, _≤_};
 ghost use lib.ListN.{length};
+use answers::of_run;
 use bytes::scan::find;
 use check::same;
 use form::Case;
@@ -27,7 +28,8 @@ use lending::all_zero;
 use lending::fill_memory;
 use lending::fill_output;
 use lending::untouched;
-use plan::Answer;
+use numbers::Numbers;
+use numbers::of_read;
 use report::LineReport;
 use report::Report;
 use report::RunReport;
@@ -57,8 +59,7 @@ fn wide(number: u32) -> usize {
 }
 
 // Whether an answer has the five numbers that a case expects.
-fn is_expected(answer: Answer, case: Case) -> bool {
-    let numbers = answer.numbers();
+fn is_expected(numbers: Numbers, case: Case) -> bool {
     wide(numbers.number) == case.number
         && wide(numbers.steps) == case.steps
         && wide(numbers.cells) == case.cells
@@ -70,8 +71,8 @@ fn is_expected(answer: Answer, case: Case) -> bool {
 // comparison holds each byte to the text expected or to what the output was filled with.
 fn reads(case: Case, text: &[u8], output: &mut [u8], expected: &[u8]) -> bool {
     fill_output(output);
-    let answer = services::read(text, output);
-    if is_expected(answer, case) {
+    let numbers = of_read(read::read(text, output));
+    if is_expected(numbers, case) {
         return same(output, expected);
     }
     false
@@ -92,9 +93,9 @@ fn runs(
     }
     fill_memory(memory);
     fill_output(output);
-    let answer = services::run(text, quota as u32, memory, output);
+    let numbers = of_run(run::run(text, quota as u32, memory, output));
     LineReport::Ran(RunReport {
-        as_expected: is_expected(answer, case) && same(output, expected),
+        as_expected: is_expected(numbers, case) && same(output, expected),
         memory_zero: all_zero(memory),
         rest_untouched: untouched(output, length),
     })

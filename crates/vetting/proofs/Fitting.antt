@@ -8,9 +8,9 @@ use borrow.Author.Tests.{eqb-false, eqb-true, not-true}
 use lib.Dec.{eqb, leb}
 use lib.ListN.{length, take, drop, length-drop}
 use lib.Seq.{drop-cons, drop-length, length-take-le}
-use Rattle.kinds.specs.Limits.{tokenLimit}
+use Rattle.kinds.specs.Limits.{Limits, standard, tokenLimit}
 use Rattle.plan.specs.Pieces.{Shows, pieces}
-use Rattle.plan.specs.Services.{Limits, acceptable, standard}
+use Rattle.plan.specs.Read.{acceptable}
 use Rattle.plan.specs.Token.{allowed}
 use Rattle.plan.proofs.Acceptable.{acceptable-plan}
 use Rattle.plan.proofs.Tests.{and-false, and-true}

@@ -8,12 +8,11 @@ use borrow.Author.Tests.{le-leb, lt-leb}
 use lib.Dec.{leb}
 use lib.ListN.{length, drop, length-drop}
 use lib.Seq.{drop-drop, drop-length}
-use Rattle.kinds.specs.Limits.{tokenLimit}
+use Rattle.kinds.specs.Limits.{standard, tokenLimit}
 use Rattle.plan.specs.declared.Character.the-variants.{Malformed, Whole}
 use Rattle.plan.specs.Token.{all-permitted, allowed, character, may-hold, permits}
 use Rattle.plan.proofs.Tests.{and-false}
 use Rattle.plan.proofs.Utf8.{character-width}
-use Rattle.plan.specs.Services.{standard}
 use Rattle.words.specs.Linking.{percent}
 use Rattle.words.specs.Stock.{is-name}
 

@@ -8,7 +8,7 @@ use borrow.Author.Tests.{eqb-false, eqb-true}
 use lib.Dec.{eqb}
 use lib.ListN.{length, drop, getD, set, length-set}
 use lib.Seq.{getD-set-other, getD-set-same}
-use Rattle.plan.specs.Services.{standard}
+use Rattle.kinds.specs.Limits.{standard}
 use Rattle.stored.specs.Counted.{FRONT}
 use Rattle.words.specs.Linking.{Word, listed, stock-token}
 use Rattle.words.specs.Stock.{word, wordLimit}

@@ -7,8 +7,7 @@ use native.Mathlib.Omega.{arith}
 use borrow.Author.Tests.{le-leb, le-ltb, lt-leb, lt-ltb}
 use lib.Dec.{leb, ltb}
 use lib.ListN.{length, drop}
-use Rattle.kinds.specs.Limits.{tokenLimit}
-use Rattle.plan.specs.Services.{Limits, standard}
+use Rattle.kinds.specs.Limits.{Limits, standard, tokenLimit}
 use Rattle.stored.specs.Counted.{AtFront, CUT, FRONT}
 use Rattle.stored.specs.Places.{number-at}
 use Rattle.stored.specs.declared.NumberAt.the-variants.{Cut, Whole}

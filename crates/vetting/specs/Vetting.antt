@@ -1,15 +1,13 @@
--- How the code judges a word list: first the words that are right but for uses, up to the first that is not; then the least of these
+-- How the code judges a word list: first the words that are right, except for uses, up to the first that is not; then the least of these
 -- that a word of the same or a smaller rank uses. Each text is walked a fixed number of times.
 use Prim.Native.Nat.{ℕ, zero, suc, _≤_, _+_}
 use mathlib.Core.Path.{_≡_}
 use mathlib.Core.Bool.{Bool, true, false, cond, not, _&&_}
 use mathlib.Core.List.{List, [], _∷_}
-use lib.Dec.{leb, ltb}
+use lib.Dec.{ltb}
 use lib.ListN.{length, drop}
-use Rattle.kinds.specs.Limits.{tokenLimit}
+use Rattle.kinds.specs.Limits.{Limits, standard}
 use Rattle.plan.specs.Pieces.{Piece}
-use Rattle.plan.specs.Services.{Limits, standard}
-use Rattle.plan.specs.Token.{allowed}
 use Rattle.stored.specs.Counted.{AtFront, CUT, FRONT}
 use Rattle.words.specs.Linking.{Word, listed, percent, stock-token, used}
 use Rattle.words.specs.Stock.{FAULT, Stock, WORDS, fits, is-name, word, wordLimit}

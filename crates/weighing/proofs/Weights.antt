@@ -5,7 +5,7 @@ use mathlib.Core.Bool.{Bool, true, false, cond, _&&_}
 use mathlib.Core.List.{List, [], _∷_}
 use native.Mathlib.Omega.{arith}
 use lib.ListN.{length, take, drop, length-drop}
-use Rattle.plan.specs.Services.{standard}
+use Rattle.kinds.specs.Limits.{standard}
 use Rattle.stored.specs.Counted.{AtFront, CUT, FRONT}
 use Rattle.entries.specs.Entries.{EntryWithin, entry-at, next-told, part, parts-told, says-told}
 use Rattle.entries.specs.declared.EntryAt.{EntryAt}

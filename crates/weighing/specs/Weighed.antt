@@ -3,7 +3,7 @@ use Prim.Native.Nat.{ℕ, _-_, _≤_}
 use mathlib.Core.Bool.{cond}
 use mathlib.Core.List.{List}
 use lib.ListN.{length}
-use Rattle.plan.specs.Services.{standard}
+use Rattle.kinds.specs.Limits.{standard}
 use Rattle.stored.specs.Counted.{AtFront, CUT, FRONT}
 use Rattle.filing.specs.Format.{Entry}
 use Rattle.filing.specs.Rules.{EntrySays, counts-done, counts-filed, obeys, says}

@@ -1,7 +1,7 @@
 // Whether the entry at a place of a roll obeys the rules, and what it adds to the tally.
 ghost use mathlib.Core.Path.{_≡_};
 ghost use mathlib.Core.List.{List, reverse};
-ghost use Rattle.plan.specs.Services.{standard};
+ghost use Rattle.kinds.specs.Limits.{standard};
 ghost use Rattle.entries.specs.Entries.{SpanWithin, part};
 ghost use lib.ListN.{drop};
 ghost use Rattle.filing.specs.Format.{Entry, entry};

@@ -12,7 +12,8 @@ use lib.Dec.{leb}
 use lib.ListN.{length}
 use Rattle.plan.specs.Plan.{Plan}
 use Rattle.plan.specs.Reading.{plan-of}
-use Rattle.plan.specs.Services.{Limits, acceptable}
+use Rattle.kinds.specs.Limits.{Limits}
+use Rattle.plan.specs.Read.{acceptable}
 use Rattle.plan.specs.Token.{Allowed}
 use Rattle.plan.proofs.Acceptable.{acceptable-plan}
 use Rattle.plan.proofs.Tests.{and-true, false-is-not-true, never}
@@ -20,20 +21,7 @@ use Rattle.stored.specs.Counted.{AtFront, CUT, FRONT, number}
 use Rattle.stored.specs.Same.{same}
 use Rattle.stored.proofs.Same.{same-equal, same-false, same-self}
 use Rattle.words.specs.Linking.{Word, holds, link, listed, stands-for, stock-token, used}
-use Rattle.words.specs.Stock.{
-  FAULT,
-  Stock,
-  WORDS,
-  as-counted,
-  fits,
-  is-name,
-  next-word,
-  right,
-  stock,
-  stocked,
-  word,
-  wordLimit,
-}
+use Rattle.words.specs.Stock.{FAULT, Stock, WORDS, as-counted, fits, is-name, next-word, right, stock, stocked, word, wordLimit}
 use Rattle.words.proofs.Linked.{allowed-link, holds-link, link-unlisted, neither}
 
 -- a right word, part by part

@@ -4,7 +4,8 @@ use mathlib.Core.Bool.{Bool, cond, not, _&&_}
 use mathlib.Core.List.{List, [], _∷_}
 use lib.Dec.{leb}
 use lib.ListN.{length}
-use Rattle.plan.specs.Services.{Limits, acceptable}
+use Rattle.kinds.specs.Limits.{Limits}
+use Rattle.plan.specs.Read.{acceptable}
 use Rattle.plan.specs.Token.{allowed}
 use Rattle.stored.specs.Counted.{AtFront, CUT, FRONT, counted, number, then-read}
 use Rattle.words.specs.Linking.{Word, listed, percent, stock-token, used}

@@ -1,16 +1,16 @@
 -- Lists and texts to try, and what linking answers: a word used twice, in a block, of another word, one that is not listed, one that is
--- empty, annotations in texts, each kind of fault with its rank, and each refusal that comes after the list's but 11. Plans may have 4 cells here, so that a
--- small one is too large.
+-- empty, annotations in texts, each kind of fault with its rank, and each refusal that comes after the list's, except 11. Plans may have 4
+-- cells here, so that a small one is too large.
 use Prim.Native.Nat.{ℕ}
 use Prim.Native.String.{String}
 use mathlib.Core.List.{List, [], _∷_, _++_}
 use lib.ListN.{length, drop, replicate, take}
-use Rattle.kinds.specs.Limits.{textLimit, tokenLimit}
-use Rattle.plan.specs.Services.{Limits}
-use Rattle.plan.specs.Worked.{Told, bytes, five}
-use Rattle.plan.specs.declared.Numbers.{Numbers}
+use Rattle.kinds.specs.Limits.{Limits, textLimit, tokenLimit}
+use Rattle.plan.specs.Outcomes.{write}
+use Rattle.numbers.specs.Rows.{Told, bytes, five}
+use Rattle.numbers.specs.declared.Numbers.{Numbers}
 use Rattle.stored.specs.Counted.{four-bytes, with-count}
-use Rattle.words.specs.Answers.{link-numbers, link-text}
+use Rattle.words.specs.Answers.{link-family, link-numbers, links}
 
 -- one word as it is stored, and a list of words behind a count
 abbrev pub entry : (name text : String) → List ℕ
@@ -80,7 +80,7 @@ lent r = replicate (r .room) 7
 
 unfoldable pub answered : LinkRow → Told
 answered r =
-    let w = link-text small (r .list) (r .text) (lent r) in
+    let w = write link-family (links small (r .list) (r .text)) (lent r) in
     record { says = link-numbers (w .answer); holds = w .output }
 
 unfoldable pub expected : LinkRow → Told

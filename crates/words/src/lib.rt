@@ -1,7 +1,11 @@
 // What linking answers. The definitions in specs/ speak of these types, so that a promise is one equation.
 ghost use mathlib.Core.Path.{_≡_};
-ghost use Rattle.words.specs.Answers.{link-numbers, link-refusal-number, link-refusal-place};
-use plan::Numbers;
+ghost use Rattle.words.specs.Answers.{link-numbers, link-refusal-numbers};
+use numbers::Numbers;
+use numbers::given;
+use numbers::of_fault;
+use numbers::out_short;
+use numbers::refused;
 use plan::TextFault;
 
 // No list has more words.
@@ -23,49 +27,22 @@ pub enum LinkAnswer {
     Refused(LinkRefusal),
 }
 
-impl LinkRefusal {
-    fn number(self) -> u32
-        ensures { λ r. ⌜ r ≡ link-refusal-number self ⌝ }
-    {
-        match self {
-            LinkRefusal::BadWords(_) => 26,
-            LinkRefusal::Text(fault) => fault.number(),
-            LinkRefusal::Overfull => 17,
-            LinkRefusal::OutShort(_) => 18,
-        }
-    }
-
-    fn place(self) -> u32
-        ensures { λ r. ⌜ r ≡ link-refusal-place self ⌝ }
-    {
-        match self {
-            LinkRefusal::BadWords(rank) => rank,
-            LinkRefusal::Text(fault) => fault.place(),
-            LinkRefusal::Overfull => 0,
-            LinkRefusal::OutShort(needed) => needed,
-        }
+fn of_link_refusal(refusal: LinkRefusal) -> Numbers
+    ensures { λ r. ⌜ r ≡ link-refusal-numbers refusal ⌝ }
+{
+    match refusal {
+        LinkRefusal::BadWords(rank) => refused(26, rank),
+        LinkRefusal::Text(fault) => of_fault(fault),
+        LinkRefusal::Overfull => refused(17, 0),
+        LinkRefusal::OutShort(needed) => out_short(needed),
     }
 }
 
-impl LinkAnswer {
-    pub fn numbers(self) -> Numbers
-        ensures { λ r. ⌜ r ≡ link-numbers self ⌝ }
-    {
-        match self {
-            LinkAnswer::Linked { cells, length } => Numbers {
-                number: 3,
-                steps: 0,
-                cells,
-                length,
-                place: 0,
-            },
-            LinkAnswer::Refused(refusal) => Numbers {
-                number: refusal.number(),
-                steps: 0,
-                cells: 0,
-                length: 0,
-                place: refusal.place(),
-            },
-        }
+pub fn of_link(answer: LinkAnswer) -> Numbers
+    ensures { λ r. ⌜ r ≡ link-numbers answer ⌝ }
+{
+    match answer {
+        LinkAnswer::Linked { cells, length } => given(cells, length),
+        LinkAnswer::Refused(refusal) => of_link_refusal(refusal),
     }
 }

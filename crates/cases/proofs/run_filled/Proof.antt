@@ -1,7 +1,9 @@
 -- `run_filled`: RUN refuses a printed text that is longer than the output.
+use mathlib.Core.Path.{ap}
 use native.Mathlib.Omega.{arith}
-use Rattle.telling.proofs.Fits.{printed-fits}
 use borrow.Author.Needs.{needs}
+use Rattle.numbers.specs.declared.Numbers.{Numbers}
+use Rattle.answers.proofs.Fits.{run-fits}
 use Rattle.cases.proofs.run_filled.Statement.{statement}
 use Rattle.cases.proofs.run_filled.Tie as tie
 
@@ -14,6 +16,9 @@ fill-output-requires c κs = search needs
 run-requires : tie.Need-run-requires
 run-requires c κs = search needs
 
+of-run-requires : tie.Need-of-run-requires
+of-run-requires c κs = search needs
+
 same-length : tie.Need-same-length
 same-length c = search needs
 
@@ -21,7 +26,9 @@ same-length-2 : tie.Need-same-length-2
 same-length-2 c = search needs
 
 returns : tie.Need-returns
-returns c = omega (arith, printed-fits _ _ _ _ _ (c .before .before .before .before .run .ensures .answer))
+returns c =
+    let o = c in
+    omega (arith, run-fits (o .before .before .before .before .before .run .ensures .wrote), ap (λ (n : Numbers). n .length) (o .of-run .ensures))
 
 pub run-filled-spec : {M : Type 1} → statement M
 run-filled-spec =
@@ -30,6 +37,7 @@ run-filled-spec =
     fill-memory-requires
     fill-output-requires
     run-requires
+    of-run-requires
     same-length
     same-length-2
     returns)

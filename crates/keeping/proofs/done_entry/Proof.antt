@@ -6,7 +6,7 @@ use native.Mathlib.Numerals.{add-one}
 use native.Mathlib.Omega.{arith}
 use borrow.Author.Needs.{needs}
 use lib.ListN.{length}
-use Rattle.plan.specs.Services.{standard}
+use Rattle.kinds.specs.Limits.{standard}
 use Rattle.filing.specs.Answers.{close-job, closing-fault, edition-1, in-use}
 use Rattle.keeping.specs.Keeping.{FineRoll, JudgedWeighed}
 use Rattle.keeping.proofs.Entering.{done-counts, done-files-none, done-short, done-size, entry-added, entry-no-room, entry-refused}

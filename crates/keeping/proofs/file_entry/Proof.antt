@@ -5,7 +5,7 @@ use native.Mathlib.Omega.{arith}
 use borrow.Author.Needs.{needs}
 use lib.ListN.{length}
 use Rattle.kinds.specs.Limits.{textLimit}
-use Rattle.plan.specs.Services.{standard}
+use Rattle.kinds.specs.Limits.{standard}
 use Rattle.filing.specs.Answers.{edition-1, file, filing-fault, in-use}
 use Rattle.filing.specs.Rules.{is-new, standing}
 use Rattle.filing.proofs.Growing.{grown-below}

@@ -1,40 +1,43 @@
 -- `link_by`: the text's fault, or what is put for a text that reads.
 use borrow.Author.Needs.{needs}
-use mathlib.Core.Path.{subst}
+use Rattle.read.proofs.Accepting.{found-counted, found-faulty}
 use Rattle.linking.proofs.Outcomes.{fault-written, fine-written}
-use Rattle.linking.specs.Parts.{ReadOverTells}
+use Rattle.linking.proofs.TextReads.{reads-readable}
 use Rattle.linking.proofs.link_by.Statement.{statement}
 use Rattle.linking.proofs.link_by.Tie as tie
 
-read-over-requires : tie.Need-read-over-requires
-read-over-requires c κs = search needs
+look-over-requires : tie.Need-look-over-requires
+look-over-requires c κs = search needs
 
 enum-known-fault : tie.Need-enum-known-fault
 enum-known-fault c = search needs
 
-enum-told : tie.Need-enum-told
-enum-told c = search needs
+enum-known-cells : tie.Need-enum-known-cells
+enum-known-cells c = search needs
 
 link-readable-requires : tie.Need-link-readable-requires
-link-readable-requires c κs = let s = c .before .before .before .before .before .before .before .before in
-    (s .pre, subst (ReadOverTells _) (c .before .enum-told .given .1) (c .before .before .before .read-over .ensures) .0)
+link-readable-requires c κs =
+    let k = c .before .before in
+    (search needs, reads-readable _ (found-counted 0 _ (k .before .before .look-over .ensures) (k .cells .given .1) .reads))
 
 returns : tie.Need-returns
-returns c = fault-written _ _ _ _ _ (subst (ReadOverTells _) (c .before .fault .given .1) (c .before .before .before .read-over .ensures))
+returns c = fault-written _ _ _ _ _ (found-faulty 0 _ (c .before .before .before .look-over .ensures) (c .before .fault .given .1))
 
 same-length : tie.Need-same-length
 same-length c = search needs
 
 returns-2 : tie.Need-returns-2
-returns-2 c = fine-written _ _ _ _ _ (subst (ReadOverTells _) (c .before .before .before .before .enum-told .given .1) (c .before .before .before .before .before .before .read-over .ensures) .1) (c .before .before .link-readable .ensures)
+returns-2 c =
+    let k = c .before .before .before .before .before in
+    fine-written _ _ _ _ _ (found-counted 0 _ (k .before .before .look-over .ensures) (k .cells .given .1) .reads) (c .before .before .link-readable .ensures)
 
 pub link-by-spec : {M : Type 1} → statement M
 link-by-spec =
     tie.close
     (tie.spec
-    read-over-requires
+    look-over-requires
     enum-known-fault
-    enum-told
+    enum-known-cells
     link-readable-requires
     returns
     same-length

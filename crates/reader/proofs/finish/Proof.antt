@@ -1,6 +1,6 @@
--- `finish`: 16 before 17, else the counts.
+-- `finish`: 16, else the counts.
 use borrow.Author.Needs.{needs}
-use Rattle.reader.proofs.Counted.{end-open, end-past, end-within}
+use Rattle.reader.proofs.Counted.{end-closed, end-open}
 use Rattle.reader.proofs.finish.Statement.{statement}
 use Rattle.reader.proofs.finish.Tie as tie
 
@@ -11,10 +11,7 @@ returns : tie.Need-returns
 returns c = search (needs, end-open)
 
 returns-2 : tie.Need-returns-2
-returns-2 c = search (needs, end-past)
-
-returns-3 : tie.Need-returns-3
-returns-3 c = search (needs, end-within)
+returns-2 c = search (needs, end-closed)
 
 pub finish-spec : {M : Type 1} → statement M
-finish-spec = tie.close (tie.spec new-requires returns returns-2 returns-3)
+finish-spec = tie.close (tie.spec new-requires returns returns-2)

@@ -1,15 +1,22 @@
 -- `run_text`: RUN refuses a printed text that is longer than the output, so what there is to tell lies within it.
+use mathlib.Core.Path.{ap}
 use native.Mathlib.Omega.{arith}
-use Rattle.telling.proofs.Fits.{printed-fits}
 use borrow.Author.Needs.{needs}
+use Rattle.numbers.specs.declared.Numbers.{Numbers}
+use Rattle.answers.proofs.Fits.{run-fits}
 use Rattle.runplan.proofs.run_text.Statement.{statement}
 use Rattle.runplan.proofs.run_text.Tie as tie
 
 run-requires : tie.Need-run-requires
 run-requires c κs = search needs
 
+of-run-requires : tie.Need-of-run-requires
+of-run-requires c κs = search needs
+
 tell-printed-requires : tie.Need-tell-printed-requires
-tell-printed-requires c κs = omega (arith, printed-fits _ _ _ _ _ (c .before .before .before .before .before .run .ensures .answer))
+tell-printed-requires c κs =
+    let o = c .before in
+    omega (arith, run-fits (o .before .before .before .before .before .run .ensures .wrote), ap (λ (n : Numbers). n .length) (o .of-run .ensures))
 
 same-length : tie.Need-same-length
 same-length c = search needs
@@ -35,8 +42,8 @@ same-length-4 c = search needs
 returns-2 : tie.Need-returns-2
 returns-2 c = search needs
 
-tell-numbers-requires : tie.Need-tell-numbers-requires
-tell-numbers-requires c κs = search needs
+tell-five-requires : tie.Need-tell-five-requires
+tell-five-requires c κs = search needs
 
 same-length-5 : tie.Need-same-length-5
 same-length-5 c = search needs
@@ -67,6 +74,7 @@ run-text-spec =
     tie.close
     (tie.spec
     run-requires
+    of-run-requires
     tell-printed-requires
     same-length
     same-length-2
@@ -76,7 +84,7 @@ run-text-spec =
     same-length-3
     same-length-4
     returns-2
-    tell-numbers-requires
+    tell-five-requires
     same-length-5
     same-length-6
     returns-3

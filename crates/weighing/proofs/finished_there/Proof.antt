@@ -1,7 +1,7 @@
 -- `finished_there`: the leaf is asked of the span's bytes.
 use mathlib.Core.Path.{ap, _∙_}
 use borrow.Author.Needs.{needs}
-use Rattle.plan.specs.Services.{standard}
+use Rattle.kinds.specs.Limits.{standard}
 use Rattle.filing.specs.Rules.{is-finished}
 use Rattle.weighing.proofs.Weights.{part-lent}
 use Rattle.weighing.proofs.finished_there.Statement.{statement}

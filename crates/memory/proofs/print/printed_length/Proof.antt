@@ -4,17 +4,7 @@ use borrow.Author.Needs.{needs}
 use native.Mathlib.Omega.{arith}
 use lib.ListN.{length as size-of}
 use Rattle.memory.specs.Pieces.{printLimit}
-use Rattle.memory.proofs.PrintWalk.{
-  ahead,
-  PrintWalk,
-  walk-first,
-  walk-lent,
-  walk-below,
-  walk-less,
-  walk-fits,
-  walk-on,
-  walk-end,
-}
+use Rattle.memory.proofs.PrintWalk.{ahead, PrintWalk, walk-first, walk-lent, walk-below, walk-less, walk-fits, walk-on, walk-end}
 use Rattle.memory.proofs.print.printed_length.Statement.{statement}
 use Rattle.memory.proofs.print.printed_length.Tie as tie
 

@@ -1,0 +1,4 @@
+pub mod Fits
+pub mod Runs
+pub mod Slots
+pub mod Worked

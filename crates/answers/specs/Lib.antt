@@ -1,0 +1,4 @@
+pub mod Run
+pub mod Slots
+pub mod Worked
+pub mod WorkedTokens

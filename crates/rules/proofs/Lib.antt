@@ -1,0 +1,5 @@
+pub mod Frames
+pub mod Leftmost
+pub mod Rewrites
+pub mod Runs
+pub mod Windows

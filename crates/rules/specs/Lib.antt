@@ -1,0 +1,4 @@
+pub mod Frames
+pub mod Leftmost
+pub mod Rewriting
+pub mod Running

@@ -1,2 +1,0 @@
-pub mod Acceptance
-pub mod RunParts
