@@ -1,19 +1,21 @@
 -- The bytes of a new entry, written one behind the other.
 use Prim.Native.Nat.{ℕ, _+_, _≤_, _<_}
-use mathlib.Core.Path.{_≡_, refl, ap, ap₂, sym, _∙_}
+use mathlib.Core.Path.{_≡_, refl, ap, ap₂, sym, subst, _∙_}
 use mathlib.Core.Logic.{_≢_}
 use mathlib.Core.Bool.{Bool, true, false, cond}
-use mathlib.Core.List.{List, [], _∷_, _++_, append-assoc, append-nil}
+use mathlib.Core.List.{List, [], _∷_, _++_, append-nil}
 use native.Mathlib.Omega.{arith}
 use borrow.Author.Tests.{ne-eqb}
 use lib.Dec.{eqb}
 use lib.ListN.{length, set, length-append}
 use lib.Seq.{sets-eq}
-use Rattle.pieces.specs.Written.{put-at}
-use Rattle.pieces.proofs.Putting.{put-long, put-nothing, put-on}
+use Rattle.kinds.specs.Written.{put-at}
+use Rattle.kinds.proofs.Putting.{put-long, put-nothing, put-on}
 use Rattle.stored.specs.Counted.{four-bytes, with-count}
-use Rattle.filing.specs.Answers.{edition-1, entry-bytes, new-bytes, sections-bytes}
-use Rattle.adding.specs.Adding.{opening}
+use Rattle.filing.specs.Answers.{edition-1, entry-bytes, new-bytes, parts-of, sections-bytes}
+use Rattle.filing.specs.declared.EntryKind.{EntryKind}
+use Rattle.filing.specs.declared.EntryKind.the-variants.{Filed, Done}
+use Rattle.adding.specs.Adding.{RoomAt, RoomFor, opening}
 
 pub new-opening : (end : ℕ) (parts : List (List ℕ)) → new-bytes edition-1 end parts ≡ opening end ++ entry-bytes parts
 unfolding new-bytes
@@ -44,12 +46,8 @@ pub count-long : (run : List ℕ) → length (with-count run) ≡ 4 + length run
 unfolding with-count
 count-long run = length-append (four-bytes (length run)) run ∙ ap (_+ length run) (four-long (length run))
 
-pub done-long : (job : List ℕ) → length (entry-bytes (job ∷ [])) ≡ 8 + length job
-unfolding entry-bytes sections-bytes
-done-long job =
-    omega (arith, length-append (four-bytes 1) (with-count job ++ []), four-long 1, length-append (with-count job) [], count-long job)
-
-pub filed-long : (job text : List ℕ) → length (entry-bytes (job ∷ text ∷ [])) ≡ 12 + length job + length text
+-- an entry of each kind: its number, and a count before each section
+pub filed-long : (job text : List ℕ) → 4 + 4 + length job + 4 + length text ≡ length (entry-bytes (parts-of Filed job text))
 unfolding entry-bytes sections-bytes
 filed-long job text =
     omega (
@@ -62,91 +60,107 @@ filed-long job text =
       count-long text,
     )
 
-module _ (l : List ℕ) (end : ℕ) (parts : List (List ℕ)) where
-  pub new-long : length (new-bytes edition-1 end parts) ≡ length (opening end) + length (entry-bytes parts)
-  new-long = ap length (new-opening end parts) ∙ length-append (opening end) (entry-bytes parts)
+pub done-long : (job text : List ℕ) → 4 + 4 + length job ≡ length (entry-bytes (parts-of Done job text))
+unfolding entry-bytes sections-bytes
+done-long job text =
+    omega (arith, length-append (four-bytes 1) (with-count job ++ []), four-long 1, length-append (with-count job) [], count-long job)
+
+-- by what the kind was found to be
+pub kind-long : {k x : EntryKind} (job text : List ℕ) → k ≡ x → length (entry-bytes (parts-of x job text)) ≡ length (entry-bytes (parts-of k job text))
+kind-long job text e = ap (λ (y : EntryKind). length (entry-bytes (parts-of y job text))) (sym e)
+
+pub new-long : (end : ℕ) (parts : List (List ℕ)) → length (new-bytes edition-1 end parts) ≡ length (opening end) + length (entry-bytes parts)
+new-long end parts = ap length (new-opening end parts) ∙ length-append (opening end) (entry-bytes parts)
 
 -- each store behind the last
 module _ (l : List ℕ) (end : ℕ) (a b : List ℕ) (room : end + length a + length b ≤ length l) {m : List ℕ} {at : ℕ}
     (one : m ≡ put-at l end a) (there : at ≡ end + length a) where
-  pub then-put : {m′ : List ℕ} → m′ ≡ put-at m at b → m′ ≡ put-at l end (a ++ b)
+  then-put : {m′ : List ℕ} → m′ ≡ put-at m at b → m′ ≡ put-at l end (a ++ b)
   then-put two = two ∙ ap₂ (λ k n. put-at k n b) one there ∙ put-on l end a (omega arith) b
 
-pub put-as-long : (l : List ℕ) (end : ℕ) (a : List ℕ) {m : List ℕ} → end + length a ≤ length l → m ≡ put-at l end a → length m ≡ length l
+put-as-long : (l : List ℕ) (end : ℕ) (a : List ℕ) {m : List ℕ} → end + length a ≤ length l → m ≡ put-at l end a → length m ≡ length l
 put-as-long l end a room one = ap length one ∙ put-long l end a room
 
--- the number of sections, behind the first byte where there was none
-module _ (l : List ℕ) (end : ℕ) (parts : List (List ℕ)) (room : end + length (new-bytes edition-1 end parts) ≤ length l) where
-  entry-room : end + length (opening end) + (4 + length (sections-bytes parts)) ≤ length l
+-- the sections behind their number
+module _ (l : List ℕ) (at : ℕ) (parts : List (List ℕ)) (fits : RoomAt l at parts) where
+  room : at + 4 + length (sections-bytes parts) ≤ length l
   unfolding entry-bytes
-  entry-room =
-      omega (arith, new-long l end parts, length-append (four-bytes (length parts)) (sections-bytes parts), four-long (length parts))
+  room = omega (arith, fits .room, length-append (four-bytes (length parts)) (sections-bytes parts), four-long (length parts))
 
-  pub new-begins : end < length l
-  new-begins = omega (arith, entry-room)
+  pub number-room : at + 4 ≤ length l
+  number-room = omega (arith, room)
 
-  module _ {m : List ℕ} {at : ℕ} (one : m ≡ put-at l end (opening end)) (there : at ≡ end + length (opening end)) where
-    pub new-number : at + 4 ≤ length m
-    new-number = omega (arith, entry-room, put-as-long l end (opening end) (omega (arith, entry-room)) one, there)
+  module _ {m : List ℕ} (one : m ≡ put-at l at (four-bytes (length parts))) where
+    sections-room : at + 4 + length (sections-bytes parts) ≤ length m
+    sections-room = omega (arith, room, put-as-long l at (four-bytes (length parts)) (omega (arith, room, four-long (length parts))) one)
 
-    module _ {m₂ : List ℕ} (two : m₂ ≡ put-at m at (four-bytes (length parts))) where
-      so-far : m₂ ≡ put-at l end (opening end ++ four-bytes (length parts))
-      so-far = then-put l end (opening end) (four-bytes (length parts)) (omega (arith, entry-room, four-long (length parts))) one there two
+    whole : {m′ : List ℕ} → m′ ≡ put-at m (at + 4) (sections-bytes parts) → m′ ≡ put-at l at (entry-bytes parts)
+    unfolding entry-bytes
+    whole two =
+        let there : at + 4 ≡ at + length (four-bytes (length parts)) = omega (arith, four-long (length parts)) in
+        then-put l at (four-bytes (length parts)) (sections-bytes parts) (omega (arith, room, four-long (length parts))) one there two
 
-      far : at + 4 ≡ end + length (opening end ++ four-bytes (length parts))
-      far = omega (arith, there, length-append (opening end) (four-bytes (length parts)), four-long (length parts))
-
-      long₂ : length m₂ ≡ length l
-      long₂ = put-as-long l end (opening end ++ four-bytes (length parts)) (omega (arith, entry-room, far, there)) so-far
-
-      -- all sections, put behind the number
-      whole : {m₃ : List ℕ} → m₃ ≡ put-at m₂ (at + 4) (sections-bytes parts) → m₃ ≡ put-at l end (new-bytes edition-1 end parts)
-      unfolding entry-bytes
-      whole three =
-          then-put l end (opening end ++ four-bytes (length parts)) (sections-bytes parts) (omega (arith, entry-room, far, there)) so-far far three
-          ∙ ap (put-at l end) (append-assoc (opening end) (four-bytes (length parts)) (sections-bytes parts) ∙ sym (new-opening end parts))
-
-      sections-room : at + 4 + length (sections-bytes parts) ≤ length m₂
-      sections-room = omega (arith, entry-room, there, long₂)
-
-module _ (l : List ℕ) (end : ℕ) (job : List ℕ) (room : end + length (new-bytes edition-1 end (job ∷ [])) ≤ length l) {m m₂ : List ℕ} {at : ℕ}
-    (one : m ≡ put-at l end (opening end)) (there : at ≡ end + length (opening end)) (two : m₂ ≡ put-at m at (four-bytes 1)) where
-  pub done-room : at + 4 + 4 + length job ≤ length m₂
+module _ (l : List ℕ) (at : ℕ) (job : List ℕ) (fits : RoomAt l at (job ∷ [])) {m : List ℕ} (one : m ≡ put-at l at (four-bytes 1)) where
+  pub done-room : at + 4 + 4 + length job ≤ length m
   unfolding sections-bytes
-  done-room = omega (arith, sections-room l end (job ∷ []) room one there two, length-append (with-count job) [], count-long job)
+  done-room = omega (arith, sections-room l at (job ∷ []) fits one, length-append (with-count job) [], count-long job)
 
-  pub done-put : {m₃ : List ℕ} → m₃ ≡ put-at m₂ (at + 4) (with-count job) → m₃ ≡ put-at l end (new-bytes edition-1 end (job ∷ []))
+  pub done-put : {m′ : List ℕ} → m′ ≡ put-at m (at + 4) (with-count job) → m′ ≡ put-at l at (entry-bytes (job ∷ []))
   unfolding sections-bytes
-  done-put three = whole l end (job ∷ []) room one there two (three ∙ ap (put-at m₂ (at + 4)) (sym (append-nil (with-count job))))
+  done-put two = whole l at (job ∷ []) fits one (two ∙ ap (put-at m (at + 4)) (sym (append-nil (with-count job))))
 
-module _ (l : List ℕ) (end : ℕ) (job text : List ℕ) (room : end + length (new-bytes edition-1 end (job ∷ text ∷ [])) ≤ length l) {m m₂ : List ℕ} {at : ℕ}
-    (one : m ≡ put-at l end (opening end)) (there : at ≡ end + length (opening end)) (two : m₂ ≡ put-at m at (four-bytes 2)) where
-  both : at + 4 + (4 + length job + (4 + length text)) ≤ length m₂
+module _ (l : List ℕ) (at : ℕ) (job text : List ℕ) (fits : RoomAt l at (job ∷ text ∷ [])) {m : List ℕ} (one : m ≡ put-at l at (four-bytes 2)) where
+  both : at + 4 + (4 + length job + (4 + length text)) ≤ length m
   unfolding sections-bytes
   both =
       omega (
         arith,
-        sections-room l end (job ∷ text ∷ []) room one there two,
+        sections-room l at (job ∷ text ∷ []) fits one,
         length-append (with-count job) (with-count text ++ []),
         length-append (with-count text) [],
         count-long job,
         count-long text,
       )
 
-  pub filed-job-room : at + 4 + 4 + length job ≤ length m₂
+  pub filed-job-room : at + 4 + 4 + length job ≤ length m
   filed-job-room = omega (arith, both)
 
-  module _ {m₃ : List ℕ} (three : m₃ ≡ put-at m₂ (at + 4) (with-count job)) where
-    long₃ : length m₃ ≡ length m₂
-    long₃ = put-as-long m₂ (at + 4) (with-count job) (omega (arith, both, count-long job)) three
+  module _ {m′ : List ℕ} (two : m′ ≡ put-at m (at + 4) (with-count job)) where
+    as-long : length m′ ≡ length m
+    as-long = put-as-long m (at + 4) (with-count job) (omega (arith, both, count-long job)) two
 
-    pub filed-text-room : at + 4 + 4 + length job + 4 + length text ≤ length m₃
-    filed-text-room = omega (arith, both, long₃)
+    pub filed-text-room : at + 4 + 4 + length job + 4 + length text ≤ length m′
+    filed-text-room = omega (arith, both, as-long)
 
-    pub filed-put : {m₄ : List ℕ} → m₄ ≡ put-at m₃ (at + 4 + 4 + length job) (with-count text) → m₄ ≡ put-at l end (new-bytes edition-1 end (job ∷ text ∷ []))
+    pub filed-put : {m″ : List ℕ} → m″ ≡ put-at m′ (at + 4 + 4 + length job) (with-count text) → m″ ≡ put-at l at (entry-bytes (job ∷ text ∷ []))
     unfolding sections-bytes
-    filed-put four =
-        let there₄ : at + 4 + 4 + length job ≡ at + 4 + length (with-count job) = omega (arith, count-long job) in
-        whole l end (job ∷ text ∷ []) room one there two
-        (then-put m₂ (at + 4) (with-count job) (with-count text) (omega (arith, both, count-long job, count-long text)) three there₄ four
-        ∙ ap (λ r. put-at m₂ (at + 4) (with-count job ++ r)) (sym (append-nil (with-count text))))
+    filed-put three =
+        let there : at + 4 + 4 + length job ≡ at + 4 + length (with-count job) = omega (arith, count-long job) in
+        whole l at (job ∷ text ∷ []) fits one
+        (then-put m (at + 4) (with-count job) (with-count text) (omega (arith, both, count-long job, count-long text)) two there three
+        ∙ ap (λ r. put-at m (at + 4) (with-count job ++ r)) (sym (append-nil (with-count text))))
+
+-- the entry behind the first byte, where there was none
+module _ (l : List ℕ) (end : ℕ) (parts : List (List ℕ)) (fits : RoomFor l end parts) where
+  room-long : end + length (opening end) + length (entry-bytes parts) ≤ length l
+  room-long = omega (arith, fits .room, new-long end parts)
+
+  pub new-begins : end < length l
+  unfolding entry-bytes
+  new-begins = omega (arith, room-long, length-append (four-bytes (length parts)) (sections-bytes parts), four-long (length parts))
+
+  module _ {m : List ℕ} {at : ℕ} (one : m ≡ put-at l end (opening end)) (there : at ≡ end + length (opening end)) where
+    pub new-room : RoomAt m at parts
+    new-room =
+        record { storable = fits .storable; room = omega (arith, room-long, there, put-as-long l end (opening end) (omega (arith, room-long)) one) }
+
+    pub new-put : {m′ : List ℕ} → m′ ≡ put-at m at (entry-bytes parts) → m′ ≡ put-at l end (new-bytes edition-1 end parts)
+    new-put two = then-put l end (opening end) (entry-bytes parts) room-long one there two ∙ ap (put-at l end) (sym (new-opening end parts))
+
+-- by what the kind was found to be
+pub room-by : {l : List ℕ} {end : ℕ} (job text : List ℕ) {k x : EntryKind} → k ≡ x → RoomFor l end (parts-of k job text) → RoomFor l end (parts-of x job text)
+room-by {l} {end} job text e fits = subst (λ (y : EntryKind). RoomFor l end (parts-of y job text)) e fits
+
+pub put-by : (l : List ℕ) (end : ℕ) (job text : List ℕ) {k x : EntryKind} → k ≡ x → {m : List ℕ} → m ≡ put-at l end (new-bytes edition-1 end (parts-of x job text))
+    → m ≡ put-at l end (new-bytes edition-1 end (parts-of k job text))
+put-by l end job text e is = is ∙ ap (λ (y : EntryKind). put-at l end (new-bytes edition-1 end (parts-of y job text))) (sym e)

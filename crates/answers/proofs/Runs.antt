@@ -5,7 +5,6 @@ use mathlib.Core.Path.{_≡_, refl, ap, sym, subst, _∙_}
 use mathlib.Core.Bool.{Bool, true, false, cond}
 use mathlib.Core.Logic.{_↔_}
 use mathlib.Core.List.{List}
-use native.Mathlib.Omega.{arith}
 use lib.ListN.{length}
 use lib.Dec.{ltb}
 use borrow.Author.Tests.{ltb-true, ltb-false, lt-ltb, le-ltb}
@@ -21,6 +20,7 @@ use Rattle.plan.proofs.Annotations.{accept-without-marks}
 use Rattle.plan.proofs.Plans.{cells-relabel, print-relabel}
 use Rattle.plan.proofs.ReadBack.{bare-placed}
 use Rattle.plan.proofs.Refusals.{refused-row, row-refused}
+use Rattle.kinds.proofs.Tests.{never}
 use Rattle.rules.specs.Running.{Ran, RAN, run-plan}
 use Rattle.rules.proofs.Runs.{run-relabel}
 use Rattle.answers.specs.declared.RunRefusal.{RunRefusal}
@@ -31,7 +31,7 @@ refuses-injective : {r s : RunRefusal} → _≡_ {A = Outcome RunRefusal HowRan}
 refuses-injective e = cc
 
 pub gives-is-no-refusal : {A : Type 0} {r : RunRefusal} {how : HowRan} {c : ℕ} {t : List ℕ} → REFUSES r ≡ GIVES how c t → A
-gives-is-no-refusal e = absurd (let z : _≡_ {A = ℕ} 0 1 = cc in omega arith)
+gives-is-no-refusal e = never cc
 
 module _ (lim : Limits) (n quota : ℕ) (text : List ℕ) where
   pub runs-short : length text ≤ lim .text → n ≤ lim .cells → runs lim n quota text ≡ run-read n quota (read (lim .token) n text)

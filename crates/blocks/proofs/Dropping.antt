@@ -7,11 +7,11 @@ use mathlib.Core.List.{List, [], _∷_}
 use native.Mathlib.Omega.{arith}
 use lib.ListN.{length, set}
 use Rattle.kinds.specs.Limits.{cellLimit}
-use Rattle.plan.specs.Plan.{Plan, labels}
+use Rattle.plan.specs.Plan.{labels}
 use Rattle.memory.specs.Memory.{start, close, link, whole}
 use Rattle.memory.specs.Model.{Lent, Aside}
 use Rattle.memory.proofs.Whole.{aside-on, aside-same, lent-kept}
-use Rattle.blocks.specs.Blocks.{Alone, Leaves, freed, first-free}
+use Rattle.blocks.specs.Blocks.{BlockFreed, Leaves, freed, first-free}
 use Rattle.blocks.proofs.Starts.{starts, starts-even, starts-odd, starts-block, way-through}
 use Rattle.blocks.proofs.Ways.{ahead, leads-beside, ahead-end, way-ahead, way-from, Way, WayAhead, turn}
 
@@ -96,12 +96,12 @@ module _ {m₀ : List ℕ} {n first stop from free₀ : ℕ} {m : List ℕ} {por
 
 -- at the stop nothing is ahead, so all is freed, of every block that the cell begins
 pub drop-end : {m₀ : List ℕ} {n first stop from free₀ : ℕ} {m : List ℕ} {port free : ℕ} → Dropping m₀ n first stop from free₀ m port free
-    → port ≡ stop → (c : ℕ) → stop ≡ close c → from ≡ start c → (b : Plan ℕ) → Alone n (whole n m₀ first) c b
-    → (whole n m first ≡ freed (whole n m₀ first) free₀ (c ∷ labels b)) × (free ≡ first-free free₀ (c ∷ labels b))
+    → port ≡ stop → (c : ℕ) → stop ≡ close c → from ≡ start c → BlockFreed n m₀ first free₀ c m free
 unfolding starts freed first-free
 drop-end {m₀} {n} {first} {stop} {from} {free₀} {m} {port} {free} h e c s f b alone =
     let none : to-free (whole n m first) n stop port ≡ [] = ap starts (ahead-end (whole n m first) n stop port e) in
-    let all : to-free (whole n m₀ first) n stop from ≡ c ∷ labels b = rw (s, f) (ap starts (way-ahead (way-through alone)) ∙ starts-block c b) in (
-      sym (ap (freed (whole n m first) free) none) ∙ h .numbers ∙ ap (freed (whole n m₀ first) free₀) all,
-      sym (ap (first-free free) none) ∙ h .frees ∙ ap (first-free free₀) all,
-    )
+    let all : to-free (whole n m₀ first) n stop from ≡ c ∷ labels b = rw (s, f) (ap starts (way-ahead (way-through alone)) ∙ starts-block c b) in
+    record {
+      numbers = sym (ap (freed (whole n m first) free) none) ∙ h .numbers ∙ ap (freed (whole n m₀ first) free₀) all;
+      frees = sym (ap (first-free free) none) ∙ h .frees ∙ ap (first-free free₀) all;
+    }

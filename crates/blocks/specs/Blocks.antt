@@ -1,5 +1,6 @@
 -- A block of a plan in the memory, and the cells that it has: what is counted before a copy and freed after a drop.
 use Prim.Native.Nat.{ℕ, _+_, _*_}
+use mathlib.Core.Path.{_≡_}
 use mathlib.Core.List.{List, [], _∷_, _++_}
 use lib.ListN.{set}
 use Rattle.plan.specs.Plan.{Plan, labels}
@@ -36,3 +37,14 @@ freed w free (c ∷ cs) = freed (set w (2 * start c + 1) free) c cs
 unfoldable pub first-free : (free : ℕ) → List ℕ → ℕ
 first-free free [] = free
 first-free free (c ∷ cs) = first-free c cs
+
+-- the cells of the list are free in the memory
+pub record CellsFreed (n : ℕ) (m : List ℕ) (first free : ℕ) (cs m′ : List ℕ) (top : ℕ) : Type 0 where
+  -- the start of each keeps the cell that was free before it, and no other number changed
+  pub numbers : whole n m′ first ≡ freed (whole n m first) free cs
+  -- the last of them is the first free one
+  pub frees : top ≡ first-free free cs
+
+-- the cells of the block at c are free: its own, then those of its contents in their order
+abbrev pub BlockFreed : (n : ℕ) → (m : List ℕ) → (first free c : ℕ) → (m′ : List ℕ) → (top : ℕ) → Type 0
+BlockFreed n m first free c m′ top = (b : Plan ℕ) → Alone n (whole n m first) c b → CellsFreed n m first free (c ∷ labels b) m′ top

@@ -2,12 +2,11 @@
 // links, and what stands around the block does not matter.
 ghost use mathlib.Core.Path.{_≡_};
 ghost use Prim.Native.Nat.{ℕ};
-ghost use mathlib.Core.List.{_∷_};
-ghost use Rattle.plan.specs.Plan.{Plan, cells, labels};
+ghost use Rattle.plan.specs.Plan.{Plan, cells};
 ghost use Rattle.memory.specs.Held.{BlockIn, HeldIn};
 ghost use Rattle.memory.specs.Memory.{start, ports, last-of, whole};
 ghost use Rattle.memory.specs.Model.{Aside};
-ghost use Rattle.blocks.specs.Blocks.{HasBlock, Alone, Leaves, freed, first-free};
+ghost use Rattle.blocks.specs.Blocks.{Alone, BlockFreed, HasBlock, Leaves};
 use kinds::Cell;
 use memory::Held;
 use memory::Port;
@@ -37,7 +36,7 @@ pub fn block_cells(text: &[u8], memory: &[u32], held: Held, block: Cell) -> u32
 // then. A free cell's start keeps the next free one, so the way on is read before the cell is freed.
 pub fn free_block(memory: &mut [u32], outer: Cell, first: Port, free: Cell, block: Cell) -> Cell
     requires { ⌜ Leaves (outer .0) (now memory) (first .0) (block .0) ⌝ }
-    ensures frees { λ r. ⌜ ((b : Plan ℕ) → Alone (outer .0) (whole (outer .0) (now (memory .entry)) (first .0)) (block .0) b → (whole (outer .0) (now (memory .exit)) (first .0) ≡ freed (whole (outer .0) (now (memory .entry)) (first .0)) (free .0) (block .0 ∷ labels b)) × (r .0 ≡ first-free (free .0) (block .0 ∷ labels b))) ⌝ }
+    ensures frees { λ r. ⌜ BlockFreed (outer .0) (now (memory .entry)) (first .0) (free .0) (block .0) (now (memory .exit)) (r .0) ⌝ }
     ensures aside { λ r. ⌜ Aside (outer .0) (now (memory .entry)) (now (memory .exit)) ⌝ }
 {
     let end = Port::close(block);

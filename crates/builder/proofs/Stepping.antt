@@ -10,9 +10,10 @@ use Rattle.pieces.specs.Numbered.{operator-number}
 use Rattle.plan.specs.declared.Operator.{Operator as PlanOperator}
 use Rattle.pieces.specs.declared.Piece.{Piece}
 use Rattle.pieces.specs.declared.Piece.the-variants.{Operator, Token, Open, Close}
-use Rattle.memory.specs.Model.{Begun, FindsCell, PieceReady, Stepped, model, with-block, with-cell, with-close, with-end, with-item, with-piece, with-token}
+use Rattle.memory.specs.Model.{Aside, Begun, FindsCell, PieceReady, Stepped, model, with-block, with-cell, with-close, with-end, with-item, with-piece, with-token}
 use Rattle.memory.specs.declared.Build.{Build}
 use Rattle.memory.specs.declared.Port.{Port}
+use Rattle.builder.specs.Places.{PlaceStored}
 
 -- one link stored
 module _ (m m′ : List ℕ) (b : Build) (first tail : Port)
@@ -42,13 +43,12 @@ module _ {m m₁ : List ℕ} {b : Build} {kind next : ℕ} (begun : Begun m m₁
   item-put p = p .steps ∙ ap₂ (λ v n. with-cell (model m b) v (b .opened .0) n) (begun .begins) (begun .behind)
 
 module _ (m m₁ m₂ m′ : List ℕ) (b b′ : Build) (next : ℕ) where
-  pub token-put : (at len : ℕ) → Begun m m₁ b token-kind next
-      → model m₂ b .numbers ≡ set (set (model m₁ b .numbers) (2 * close (b .free .0)) at) (2 * close (b .free .0) + 1) len
+  pub token-put : (at len : ℕ) → Begun m m₁ b token-kind next → PlaceStored m₁ b m₂ at len
       → Stepped m₂ b m′ b′ (with-cell (model m₂ b) (model m₂ b .numbers) (b .opened .0) next) → model m′ b′ ≡ with-token (model m b) at len
-  token-put at len begun stored p =
+  token-put at len begun placed p =
       p .steps
       ∙ ap₂ (λ v n. with-cell (model m b) v (b .opened .0) n)
-      (stored ∙ ap (λ v. set (set v (2 * close (b .free .0)) at) (2 * close (b .free .0) + 1) len) (begun .begins)) (begun .behind)
+      (placed .stored ∙ ap (λ v. set (set v (2 * close (b .free .0)) at) (2 * close (b .free .0) + 1) len) (begun .begins)) (begun .behind)
 
   pub block-put : (port : ℕ) → port ≡ close (b .free .0) → Begun m m₁ b block-kind next
       → ((first : ℕ) → whole (b .outer .0) m₂ first ≡ set (whole (b .outer .0) m₁ first) (2 * port + 1) (b .opened .0))
@@ -59,10 +59,12 @@ module _ (m m₁ m₂ m′ : List ℕ) (b b′ : Build) (next : ℕ) where
       (kept (b .first .0) ∙ ap₂ (λ v x. set v (2 * x + 1) (b .opened .0)) (begun .begins) at) (begun .behind)
 
 pub place-stored : (m m₁ m₂ : List ℕ) (b : Build) (port at len : ℕ) → port ≡ close (b .free .0) → model m₁ b .numbers ≡ set (model m b .numbers) (2 * port) at
-    → model m₂ b .numbers ≡ set (model m₁ b .numbers) (2 * port + 1) len
-    → model m₂ b .numbers ≡ set (set (model m b .numbers) (2 * close (b .free .0)) at) (2 * close (b .free .0) + 1) len
-place-stored m m₁ m₂ b port at len is one two =
-    two ∙ ap (λ v. set v (2 * port + 1) len) one ∙ ap (λ x. set (set (model m b .numbers) (2 * x) at) (2 * x + 1) len) is
+    → model m₂ b .numbers ≡ set (model m₁ b .numbers) (2 * port + 1) len → Aside (b .outer .0) m m₂ → PlaceStored m b m₂ at len
+place-stored m m₁ m₂ b port at len is one two aside =
+    record {
+      stored = two ∙ ap (λ v. set v (2 * port + 1) len) one ∙ ap (λ x. set (set (model m b .numbers) (2 * x) at) (2 * x + 1) len) is;
+      aside = aside;
+    }
 
 -- a piece, by what a match found it to be
 module _ {m : List ℕ} {b : Build} {k : Piece} where

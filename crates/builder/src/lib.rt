@@ -1,13 +1,13 @@
 // The builder: a plan is put into the memory item by item. Each step writes the first free cell and links the tail of the
 // chain on to it, and does on the model of specs/Model.antt exactly what the step of that name there does.
 ghost use mathlib.Core.Path.{_≡_};
-ghost use Prim.Native.Nat.{_+_, _*_, _<_};
+ghost use Prim.Native.Nat.{_*_, _<_};
 ghost use lib.ListN.{set};
 ghost use Rattle.kinds.specs.Limits.{cellNumbers};
 ghost use Rattle.pieces.specs.Numbered.{operator-number};
-ghost use Rattle.memory.specs.Memory.{close};
 ghost use Rattle.memory.specs.Numbered.{kind-number};
 ghost use Rattle.memory.specs.Model.{Lent, Aside, Buildable, Stepped, Fresh, Begun, model, with-cell, with-item, with-token, with-block, with-close, Finished, PieceReady, Apart, with-piece};
+ghost use Rattle.builder.specs.Places.{PlaceStored};
 use kinds::Cell;
 use kinds::Token;
 use memory::Build;
@@ -45,8 +45,7 @@ fn begin_cell(memory: &mut [u32], b: Build, kind: Kind) -> Cell
 // Stores which token the first free cell is: its place and its length in the text.
 fn set_place(memory: &mut [u32], b: Build, token: Token)
     requires { ⌜ Lent (b .outer .0) (now memory) × (b .free .0 < b .outer .0) ⌝ }
-    ensures stored { λ r. ⌜ model (now (memory .exit)) b .numbers ≡ set (set (model (now (memory .entry)) b .numbers) (2 * close (b .free .0)) (token .at .0)) (2 * close (b .free .0) + 1) (token .len) ⌝ }
-    ensures aside { λ r. ⌜ Aside (b .outer .0) (now (memory .entry)) (now (memory .exit)) ⌝ }
+    ensures { λ r. ⌜ PlaceStored (now (memory .entry)) b (now (memory .exit)) (token .at .0) (token .len) ⌝ }
 {
     let free = b.free;
     let at = token.at;

@@ -17,7 +17,7 @@ use Rattle.plan.specs.Plan.{print}
 use Rattle.plan.specs.Read.{read-family, reads}
 use Rattle.plan.proofs.Accepting.{one-refusal}
 use Rattle.plan.proofs.Outcomes.{written}
-use Rattle.plan.proofs.Tests.{never}
+use Rattle.kinds.proofs.Tests.{never}
 use Rattle.numbers.specs.declared.Numbers.{Numbers}
 use Rattle.numbers.specs.Numbers.{read-numbers, read-refusal-numbers}
 use Rattle.numbers.proofs.Told.{read-refusal-number-is, same-read-refusal}

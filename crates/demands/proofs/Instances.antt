@@ -8,6 +8,7 @@ use mathlib.Core.List.{List, [], _∷_, _++_}
 use native.Mathlib.Omega.{arith}
 use lib.ListN.{length, replicate}
 use Rattle.kinds.specs.Limits.{cellNumbers, standard}
+use Rattle.kinds.proofs.Tests.{never}
 use Rattle.plan.specs.declared.ReadAnswer.the-variants.{Read, Refused as RefusedText}
 use Rattle.plan.specs.declared.ReadRefusal.the-variants.{NotRead, OutShort as PastOutput}
 use Rattle.rules.specs.declared.Ending.{Ending}
@@ -15,19 +16,17 @@ use Rattle.rules.specs.declared.Ending.the-variants.{Done, Quota, Full}
 use Rattle.plan.specs.declared.Operator.the-variants.{D}
 use Rattle.plan.specs.declared.Unread.the-variants.{Text}
 use Rattle.plan.specs.declared.TextFault.the-variants.{Unclosed}
-use Rattle.plan.specs.Plan.{Plan, WithoutC, end, operator, token, block, _then_, bare, cells, labels, letter, print, relabel}
-use Rattle.plan.specs.Token.{annotation, follows, scalar, value, well-formed, all-permitted, allowed, before-brace, character, if-allowed, may-hold, permits, token-text}
-use Rattle.plan.specs.Reading.{HoldsAnnotation, OUTSIDE, accept, class, enter, fit, go-on, leave, mark, move, past-token, place, read, read-from, read-text, without-marks}
-use Rattle.plan.specs.Options.{_else_, under}
-use Rattle.rules.specs.Rewriting.{after-two, first-block, inner, next, outer}
-use Rattle.rules.specs.Running.{ask, one-more, run-plan, turn}
-use Rattle.plan.specs.Outcomes.{GIVES, cleared, is-given, write}
-use Rattle.plan.specs.Read.{acceptable, as-read, reads}
+use Rattle.plan.specs.Plan.{Plan, WithoutC, end, operator, token, block, bare, relabel}
+use Rattle.plan.specs.Reading.{HoldsAnnotation, OUTSIDE, enter, leave, place, without-marks}
+use Rattle.plan.specs.Outcomes.{GIVES}
+use Rattle.plan.specs.Read.{acceptable}
+use Rattle.plan.proofs.Worked.{reading}
 use Rattle.answers.specs.declared.RunAnswer.{RunAnswer}
 use Rattle.answers.specs.declared.RunAnswer.the-variants.{Ran, Refused}
 use Rattle.answers.specs.declared.RunRefusal.the-variants.{NotRead as RunNotRead, OutShort}
-use Rattle.answers.specs.Run.{as-run, run-numbers, run-read, run-refusal-numbers, runs}
+use Rattle.answers.specs.Run.{run-numbers, run-refusal-numbers}
 use Rattle.answers.specs.Slots.{after, next-slot, slots, total}
+use Rattle.answers.proofs.Worked.{worked-plans}
 use Rattle.numbers.specs.Rows.{bytes}
 use Rattle.read.specs.Calls.{ReadsOut}
 use Rattle.run.specs.Calls.{Runs}
@@ -75,7 +74,7 @@ pub calls : Runs p6 2 (memory 7) out (Ran Done 2 4 10) (zeroed 7) (ended ++ repl
     × (slots standard 7 1 (1 ∷ []) p6 ≡ GIVES (record { ending = Done; steps = 2 }) 4 ended)
     × ReadsOut (bytes "[") out (RefusedText (NotRead (Text (Unclosed (place 1))))) out × ReadsOut p6 [] (RefusedText (PastOutput 14)) []
     × ReadsOut (bytes "{&j}") [] (Read 0 0) [] × ReadsOut spaced out (Read 2 5) (bytes "[{x}]" ++ replicate 11 7)
-unfolding slots next-slot after cleared runs run-read reads as-read as-run accept read-text write read read-from go-on move past-token mark annotation fit class token-text if-allowed before-brace allowed all-permitted permits may-hold character value follows scalar well-formed cells labels print letter _then_ run-plan turn ask one-more next outer inner first-block after-two under _else_ bytes
+unfolding worked-plans slots next-slot after
 calls = (
   record { wrote = record { answer = refl; output = refl }; zeroed = refl },
   record { wrote = record { answer = refl; output = refl }; zeroed = refl },
@@ -138,7 +137,7 @@ refused-readings = (read-refused (calls .7) (NotRead (Text (Unclosed (place 1)))
 
 -- acceptable texts, and one that is not
 pub acceptable-and-not : (acceptable standard p6 ≡ true) × (acceptable standard spaced ≡ true) × (acceptable standard (bytes "[") ≡ false)
-unfolding calls acceptable is-given
+unfolding calls
 acceptable-and-not = (refl, refl, refl)
 
 -- P6 in two slots of quota 1, which are its quota of 2
@@ -162,10 +161,10 @@ two-slots = (first (slot (calls .1) (λ e. absurd (omega arith))) (only (slot (c
 
 -- P5 is a plan without c
 pub a-plan-without-c : (p : Bare) × Reads 3 (bytes "[{x}]d") p × WithoutC p
-unfolding accept read-text read-from go-on move past-token mark annotation fit class token-text if-allowed before-brace allowed all-permitted permits may-hold character value follows scalar well-formed cells labels under _then_ bytes relabel
+unfolding reading bytes relabel
 a-plan-without-c =
     let placed : Plan ℕ = block 0 (token 1 (bytes "x") end) (operator 5 D end) in
-    (bare placed, record { within = omega arith; placed = placed; accepted = refl; same = refl }, (tt, (λ e. let z : _≡_ {A = ℕ} 0 1 = cc in omega arith, tt)))
+    (bare placed, record { within = omega arith; placed = placed; accepted = refl; same = refl }, (tt, (λ e. never cc, tt)))
 
 -- and five numbers stored over the C interface
 pub five-stored : Answers (λ r. five (run-numbers r)) (λ r. Runs p6 2 (memory 7) out r (zeroed 7) (ended ++ replicate 6 7)) (0 ∷ 2 ∷ 4 ∷ 10 ∷ 0 ∷ [])

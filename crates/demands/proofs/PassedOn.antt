@@ -12,7 +12,7 @@ use Rattle.plan.specs.declared.TextFault.{TextFault}
 use Rattle.plan.specs.declared.Unread.{Unread}
 use Rattle.plan.specs.declared.Unread.the-variants.{Text}
 use Rattle.plan.specs.Refusals.{Row, Unreadable, bad-text as bad-row, faulty, overfull, too-long}
-use Rattle.plan.proofs.Tests.{never}
+use Rattle.kinds.proofs.Tests.{never}
 use Rattle.numbers.specs.Numbers.{fault-numbers, read-numbers, unread-numbers}
 use Rattle.answers.specs.declared.RunAnswer.{RunAnswer}
 use Rattle.answers.specs.declared.RunRefusal.{RunRefusal}

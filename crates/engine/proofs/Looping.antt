@@ -17,7 +17,7 @@ use Rattle.rules.proofs.Runs.{ask-relabel, retell, run-go, run-spent, run-stop}
 use Rattle.memory.specs.Model.{Aside, Lent}
 use Rattle.memory.specs.declared.Held.{Held}
 use Rattle.memory.proofs.Whole.{aside-on, aside-same, lent-kept}
-use Rattle.engine.specs.Running.{RanAs, Runnable, SameCells, Sized, Turned}
+use Rattle.engine.specs.Running.{RanAs, Runnable, SameCells, Sized, TurnMade, Turned}
 use Rattle.engine.specs.declared.Turn.{Turn}
 use Rattle.engine.specs.declared.Turn.the-variants.{Stopped, Went}
 
@@ -40,28 +40,26 @@ pub record Reaches (text : List ℕ) (n quota : ℕ) (t₀ : Plan ℕ) (m : List
   pub runs : run-plan n quota (bare t₀) ≡ plus steps (run-plan n left (bare plan))
 
 pub record RunSoFar (text m₀ : List ℕ) (h₀ : Held) (size₀ quota : ℕ) (m : List ℕ) (h : Held) (size steps : ℕ) : Type 0 where
-  pub lent : Lent (h .outer .0) m
+  pub began : Runnable text m₀ h₀ size₀
   pub same : h .outer ≡ h₀ .outer
   pub aside : Aside (h₀ .outer .0) m₀ m
-  pub plan : Plan ℕ
-  pub first : Sized text m₀ h₀ size₀ plan
   pub each : (t : Plan ℕ) → Sized text m₀ h₀ size₀ t → Reaches text (h₀ .outer .0) quota t m h size steps
 
 pub so-far-first : {text m : List ℕ} {h : Held} {size : ℕ} (quota : ℕ) → Runnable text m h size → RunSoFar text m h size quota m h size 0
 unfolding plus
 so-far-first quota k =
     record {
-      lent = k .lent;
+      began = k;
       same = refl;
       aside = aside-same;
-      plan = k .plan;
-      first = k .sized;
       each = λ t s. record { plan = t; sized = s; left = quota; counts = omega arith; runs = refl };
     }
 
 module _ {text m₀ : List ℕ} {h₀ : Held} {size₀ quota : ℕ} {m : List ℕ} {h : Held} {size steps : ℕ} (g : RunSoFar text m₀ h₀ size₀ quota m h size steps) where
   pub so-far-runnable : Runnable text m h size
-  so-far-runnable = let r = g .each (g .plan) (g .first) in record { lent = g .lent; plan = r .plan; sized = r .sized }
+  so-far-runnable =
+      let r = g .each (g .began .plan) (g .began .sized) in
+      record { lent = subst (λ (c : Cell). Lent (c .0) m) (sym (g .same)) (lent-kept (g .began .lent) (g .aside .as-long)); plan = r .plan; sized = r .sized }
 
   cells-same : h .outer .0 ≡ h₀ .outer .0
   cells-same = ap (λ (c : Cell). c .0) (g .same)
@@ -102,7 +100,7 @@ module _ {text m₀ : List ℕ} {h₀ : Held} {size₀ quota : ℕ} {m : List �
       }
 
   -- the turn as it was made
-  module _ (m′ : List ℕ) (turn : Turn) (turned : (t : Plan ℕ) → Sized text m h size t → Turned text m h (ltb steps quota) m′ turn t) where
+  module _ (m′ : List ℕ) (turn : Turn) (turned : TurnMade text m h size (ltb steps quota) m′ turn) where
     pub so-far-stop : {e : Ending} → turn ≡ Stopped e → (t : Plan ℕ) → Sized text m₀ h₀ size₀ t
         → RanAs text (h₀ .outer .0) quota t m′ (record { ending = e; steps = steps; held = h; size = size })
     so-far-stop {e} is t s =
@@ -115,25 +113,20 @@ module _ {text m₀ : List ℕ} {h₀ : Held} {size₀ quota : ℕ} {m : List �
         }
 
     module _ {h′ : Held} {size′ : ℕ} (is : turn ≡ Went h′ size′) where
-      turned-on : (t : Plan ℕ) → Sized text m h size t → Turned text m h (ltb steps quota) m′ (Went h′ size′) t
+      turned-on : TurnMade text m h size (ltb steps quota) m′ (Went h′ size′)
       turned-on t s = subst (λ x. Turned text m h (ltb steps quota) m′ x t) is (turned t s)
 
       pub so-far-more : steps < quota
-      so-far-more =
-          let r = g .each (g .plan) (g .first) in
-          ltb-true steps quota (turned-on (r .plan) (r .sized) .0)
+      so-far-more = let r = so-far-runnable in ltb-true steps quota (turned-on (r .plan) (r .sized) .0)
 
       pub so-far-less : quota - (steps + 1) < quota - steps
       so-far-less = let more = so-far-more in omega arith
 
       pub so-far-on : SameCells h turn → Aside (h .outer .0) m m′ → RunSoFar text m₀ h₀ size₀ quota m′ h′ size′ (steps + 1)
       so-far-on same aside =
-          let kept : h′ .outer ≡ h .outer = subst (SameCells h) is same in
           record {
-            lent = subst (λ (c : Cell). Lent (c .0) m′) (sym kept) (lent-kept (g .lent) (aside .as-long));
-            same = kept ∙ g .same;
+            began = g .began;
+            same = subst (SameCells h) is same ∙ g .same;
             aside = so-far-aside aside;
-            plan = g .plan;
-            first = g .first;
             each = λ t s. (let r = g .each t s in went m′ h′ size′ t r (turned-on (r .plan) (r .sized)));
           }

@@ -13,14 +13,14 @@ use Rattle.rules.specs.Running.{GO, ask}
 use Rattle.rules.specs.declared.Ending.the-variants.{Done, Quota, Full}
 use Rattle.rules.proofs.Frames.{ahead-top}
 use Rattle.rules.proofs.Runs.{ask-go}
-use Rattle.memory.specs.Held.{HeldIn, HeldAlike}
+use Rattle.memory.specs.Held.{HeldIn}
 use Rattle.memory.specs.declared.Held.{Held}
 use Rattle.hunt.specs.Hunting.{Finds, Huntable}
 use Rattle.hunt.specs.declared.Hunted.{Hunted}
 use Rattle.hunt.specs.declared.Hunted.the-variants.{Nothing, Ready}
 use Rattle.hunt.specs.declared.Spot.{Spot}
-use Rattle.rewrites.specs.Rules.{Rewritable, Rewrites}
-use Rattle.engine.specs.Running.{Countable, Runnable, Sized, Spotted, Turned}
+use Rattle.rewrites.specs.Rules.{Rewritable, RewriteMade, Rewrites}
+use Rattle.engine.specs.Running.{Countable, Runnable, Sized, Spotted, TurnMade}
 use Rattle.engine.specs.declared.Turn.the-variants.{Stopped, Went}
 
 module _ {text m : List ℕ} {h : Held} {size : ℕ} (k : Runnable text m h size) where
@@ -45,7 +45,7 @@ allowed false e = sym e
 
 -- what the hunt found
 module _ {text m : List ℕ} {h : Held} {size : ℕ} {r : Hunted} (finds : (t : Plan ℕ) → HeldIn text m h t → Finds r (h .outer .0) t) where
-  pub turn-done : r ≡ Nothing → (more : Bool) (t : Plan ℕ) → Sized text m h size t → Turned text m h more m (Stopped Done) t
+  pub turn-done : r ≡ Nothing → (more : Bool) → TurnMade text m h size more m (Stopped Done)
   unfolding ask
   turn-done e more t s = (refl, rw (subst (λ x. Finds x (h .outer .0) t) e (finds t (s .held))))
 
@@ -68,7 +68,7 @@ module _ {text m : List ℕ} {h : Held} {size : ℕ} {r : Hunted} (finds : (t : 
       is-next : (t : Plan ℕ) (s : Sized text m h size t) → (next t ≡ some (plug (found t s .0) (found t s .2))) × (after ≡ cells (plug (found t s .0) (found t s .2)))
       is-next t s = (found t s .5, counts (found t s .0) (found t s .1) (found t s .2) (spotted t s))
 
-      pub turn-full : h .outer .0 < after → (more : Bool) (t : Plan ℕ) → Sized text m h size t → Turned text m h more m (Stopped Full) t
+      pub turn-full : h .outer .0 < after → (more : Bool) → TurnMade text m h size more m (Stopped Full)
       unfolding ask
       turn-full over more t s =
           let (is, many) = is-next t s in
@@ -78,7 +78,7 @@ module _ {text m : List ℕ} {h : Held} {size : ℕ} {r : Hunted} (finds : (t : 
         goes : (t : Plan ℕ) (s : Sized text m h size t) → ask (h .outer .0) (next t) ≡ GO (plug (found t s .0) (found t s .2))
         goes t s = let (is, many) = is-next t s in ask-go (h .outer .0) (next t) (plug (found t s .0) (found t s .2)) .1 (is, omega arith)
 
-        pub turn-quota : (more : Bool) → not more ≡ true → (t : Plan ℕ) → Sized text m h size t → Turned text m h more m (Stopped Quota) t
+        pub turn-quota : (more : Bool) → not more ≡ true → TurnMade text m h size more m (Stopped Quota)
         turn-quota more no-more t s = (refl, refused more no-more, (plug (found t s .0) (found t s .2), goes t s))
 
         rewrites : (t : Plan ℕ) (s : Sized text m h size t) → Rewrites text m h spot (found t s .0) (found t s .1) (found t s .2)
@@ -91,8 +91,7 @@ module _ {text m : List ℕ} {h : Held} {size : ℕ} {r : Hunted} (finds : (t : 
             let there = found (k .plan) (k .sized) in
             record { lent = k .lent; frame = there .0; before = there .1; after = there .2; rewrites = rewrites (k .plan) (k .sized) }
 
-        pub turn-went : {m′ : List ℕ} {h′ : Held} (more : Bool) → not more ≡ false
-            → ((f : Frame ℕ) (q q′ : Plan ℕ) → Rewrites text m h spot f q q′ → HeldAlike text m′ h′ (plug f q′))
-            → (t : Plan ℕ) → Sized text m h size t → Turned text m h more m′ (Went h′ after) t
+        pub turn-went : {m′ : List ℕ} {h′ : Held} (more : Bool) → not more ≡ false → RewriteMade text m h spot m′ h′
+            → TurnMade text m h size more m′ (Went h′ after)
         turn-went more is-more made t s =
             (allowed more is-more, (plug (found t s .0) (found t s .2), goes t s, made (found t s .0) (found t s .1) (found t s .2) (rewrites t s), is-next t s .1))

@@ -49,6 +49,10 @@ Turned text m h more m′ (Stopped Quota) t = (m′ ≡ m) × (more ≡ false) �
 Turned text m h more m′ (Went h′ size) t =
     (more ≡ true) × ((p : Plan ℕ) × (ask (h .outer .0) (next t) ≡ GO p) × HeldAlike text m′ h′ p × (size ≡ cells p))
 
+-- one turn of whatever plan the memory held
+abbrev pub TurnMade : (text m : List ℕ) → Held → (size : ℕ) → (more : Bool) → (m′ : List ℕ) → Turn → Type 0
+TurnMade text m h size more m′ r = (t : Plan ℕ) → Sized text m h size t → Turned text m h more m′ r t
+
 -- a plan that a turn goes on with is held in the same cells
 abbrev pub SameCells : Held → Turn → Type 0
 SameCells h (Stopped e) = Unit {0}
@@ -59,3 +63,7 @@ pub record RanAs (text : List ℕ) (n quota : ℕ) (t : Plan ℕ) (m′ : List �
   pub plan : Plan ℕ
   pub runs : run-plan n quota (bare t) ≡ RAN (r .ending) (r .steps) (bare plan)
   pub sized : Sized text m′ (r .held) (r .size) plan
+
+-- the run of whatever plan the memory held
+abbrev pub RunMade : (text m : List ℕ) → Held → (size quota : ℕ) → (m′ : List ℕ) → Ended → Type 0
+RunMade text m h size quota m′ r = (t : Plan ℕ) → Sized text m h size t → RanAs text (h .outer .0) quota t m′ r

@@ -5,7 +5,7 @@ ghost use Prim.Native.Nat.{ℕ};
 ghost use Rattle.rules.specs.Frames.{Frame, plug};
 ghost use Rattle.plan.specs.Plan.{Plan, cells};
 ghost use Rattle.memory.specs.Model.{Aside};
-ghost use Rattle.engine.specs.Running.{Countable, RanAs, Runnable, SameCells, Sized, Spotted, Turned};
+ghost use Rattle.engine.specs.Running.{Countable, RunMade, Runnable, SameCells, Spotted, TurnMade};
 use blocks::block_cells;
 use hunt::Hunted;
 use hunt::Spot;
@@ -46,7 +46,7 @@ fn size_after(text: &[u8], memory: &[u32], held: Held, spot: Spot, size: u32) ->
 // One turn. FULL is known before anything changes, and before the quota is asked.
 pub fn step(text: &[u8], memory: &mut [u32], held: Held, size: u32, more: bool) -> Turn
     requires { ⌜ Runnable (now text) (now memory) held size ⌝ }
-    ensures turned { λ r. ⌜ ((t : Plan ℕ) → Sized (now (text .entry)) (now (memory .entry)) held size t → Turned (now (text .entry)) (now (memory .entry)) held more (now (memory .exit)) r t) ⌝ }
+    ensures turned { λ r. ⌜ TurnMade (now (text .entry)) (now (memory .entry)) held size more (now (memory .exit)) r ⌝ }
     ensures same_cells { λ r. ⌜ SameCells held r ⌝ }
     ensures aside { λ r. ⌜ Aside (held .outer .0) (now (memory .entry)) (now (memory .exit)) ⌝ }
 {
@@ -73,7 +73,7 @@ pub fn step(text: &[u8], memory: &mut [u32], held: Held, size: u32, more: bool) 
 // The whole run.
 pub fn run(text: &[u8], memory: &mut [u32], held: Held, size: u32, quota: u32) -> Ended
     requires { ⌜ Runnable (now text) (now memory) held size ⌝ }
-    ensures ran { λ r. ⌜ ((t : Plan ℕ) → Sized (now (text .entry)) (now (memory .entry)) held size t → RanAs (now (text .entry)) (held .outer .0) quota t (now (memory .exit)) r) ⌝ }
+    ensures ran { λ r. ⌜ RunMade (now (text .entry)) (now (memory .entry)) held size quota (now (memory .exit)) r ⌝ }
     ensures same_cells { λ r. ⌜ r .held .outer ≡ held .outer ⌝ }
     ensures aside { λ r. ⌜ Aside (held .outer .0) (now (memory .entry)) (now (memory .exit)) ⌝ }
 {

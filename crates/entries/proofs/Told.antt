@@ -4,18 +4,27 @@ use mathlib.Core.Path.{_≡_, refl, ap, ap₂, sym, _∙_}
 use mathlib.Core.Logic.{_≢_}
 use mathlib.Core.List.{List, [], _∷_}
 use native.Mathlib.Omega.{arith}
-use lib.ListN.{length, take, drop, length-drop}
-use lib.Seq.{length-take-le}
+use lib.ListN.{length, drop, length-drop}
+use Rattle.kinds.proofs.Tests.{never}
 use Rattle.stored.specs.Counted.{AtFront, CUT, FRONT, then-read}
-use Rattle.stored.specs.Places.{number-at, run-at}
+use Rattle.stored.specs.Places.{number-at, run-at, runs-at}
+use Rattle.stored.specs.Spans.{SpanWithin, part, span}
+use Rattle.stored.specs.declared.Span.{Span}
 use Rattle.stored.specs.declared.NumberAt.the-variants.{Cut as NumberCut, Whole as WholeNumber}
 use Rattle.stored.specs.declared.RunAt.the-variants.{Cut as RunCut, Whole as WholeRun}
+use Rattle.stored.specs.declared.RunsAt.the-variants.{Cut as RunsCut, Both}
 use Rattle.stored.proofs.Places.{number-found, number-lost, run-found, run-lost}
+use Rattle.stored.proofs.Pairs.{part-long, runs-found, runs-front, runs-lost}
 use Rattle.filing.specs.Format.{entry, sections}
-use Rattle.filing.proofs.Format.{sections-many}
-use Rattle.entries.specs.Entries.{done-at, entry-at, filed-at, other-at, others-told, parts-told, past-told, span}
-use Rattle.entries.specs.declared.EntryAt.the-variants.{Torn, Filed, Done, Other}
+use Rattle.filing.specs.declared.EntryKind.the-variants.{Filed, Done}
+use Rattle.filing.proofs.Format.{sections-many, two-sections}
+use Rattle.entries.specs.Entries.{done-at, entry-at, filed-at, other-at, others-told, parts-told, past-told}
+use Rattle.entries.specs.declared.EntryAt.the-variants.{Torn, Known, Other}
 use Rattle.entries.specs.declared.Past.the-variants.{Torn as PastTorn, At}
+
+-- what is left behind a span says where it ends
+span-end : (bytes : List ℕ) (s : Span) → SpanWithin bytes s → length bytes - length (drop (s .at + s .len) bytes) ≡ s .at + s .len
+span-end bytes s h = omega (arith, length-drop (s .at + s .len) bytes)
 
 module _ (bytes : List ℕ) (at : ℕ) where
   -- a section that is cut cuts all
@@ -23,60 +32,37 @@ module _ (bytes : List ℕ) (at : ℕ) where
   unfolding sections then-read
   section-cut k e = ap (λ x. then-read x (λ s rest. then-read (sections k rest) (λ ss later. FRONT (s ∷ ss) later))) (run-lost bytes at e)
 
-  module _ {from len : ℕ} (found : run-at bytes at ≡ WholeRun from len) where
-    pub run-within : from + len ≤ length bytes
-    run-within = run-found bytes at found .1
-
-    pub run-place : from ≡ at + 4
-    run-place = run-found bytes at found .0
-
-    run-size : length (take len (drop from bytes)) ≡ len
-    run-size = length-take-le len (drop from bytes) (omega (arith, run-within, length-drop from bytes))
-
-    -- what is left says where the run ends
-    run-end : length bytes - length (drop (from + len) bytes) ≡ from + len
-    run-end = omega (arith, run-within, length-drop (from + len) bytes)
-
-    section-whole : (k : ℕ) → sections (suc k) (drop at bytes)
-        ≡ then-read (sections k (drop (from + len) bytes)) (λ ss later. FRONT (take len (drop from bytes) ∷ ss) later)
-    unfolding sections then-read
-    section-whole k = ap (λ x. then-read x (λ s rest. then-read (sections k rest) (λ ss later. FRONT (s ∷ ss) later))) (run-found bytes at found .2)
-
-    one-section : sections 1 (drop at bytes) ≡ FRONT (take len (drop from bytes) ∷ []) (drop (from + len) bytes)
-    unfolding sections then-read
-    one-section = section-whole 0
-
-    pub done-whole : Done (span from len) (from + len) ≡ done-at bytes at
-    unfolding done-at
-    done-whole =
-        sym (ap (parts-told bytes at) one-section ∙ ap₂ Done (ap₂ span (sym run-place) run-size) run-end)
+  section-whole : (k : ℕ) {s : Span} → run-at bytes at ≡ WholeRun s
+      → sections (suc k) (drop at bytes) ≡ then-read (sections k (drop (s .at + s .len) bytes)) (λ ss later. FRONT (part bytes s ∷ ss) later)
+  unfolding sections then-read
+  section-whole k e =
+      ap (λ x. then-read x (λ s rest. then-read (sections k rest) (λ ss later. FRONT (s ∷ ss) later))) (run-found bytes at e .front)
 
   pub done-torn : run-at bytes at ≡ RunCut → Torn ≡ done-at bytes at
   unfolding done-at
   done-torn e = sym (ap (parts-told bytes at) (section-cut 0 e))
 
-  pub filed-torn : run-at bytes at ≡ RunCut → Torn ≡ filed-at bytes at
+  pub done-whole : {job : Span} → run-at bytes at ≡ WholeRun job → Known Done job (span 0 0) (job .at + job .len) ≡ done-at bytes at
+  unfolding done-at sections then-read
+  done-whole {job} e =
+      let f = run-found bytes at e in
+      sym (ap (parts-told bytes at) (section-whole 0 e)
+      ∙ ap₂ (λ s n. Known Done s (span 0 0) n) (ap₂ span (sym (f .place)) (part-long bytes job (f .within))) (span-end bytes job (f .within)))
+
+  pub filed-torn : runs-at bytes at ≡ RunsCut → Torn ≡ filed-at bytes at
   unfolding filed-at
-  filed-torn e = sym (ap (parts-told bytes at) (section-cut 1 e))
+  filed-torn e = sym (ap (parts-told bytes at) (two-sections (drop at bytes) ∙ runs-lost bytes at e (λ job text. job ∷ text ∷ [])))
 
-module _ (bytes : List ℕ) (at : ℕ) {from len : ℕ} (one : run-at bytes at ≡ WholeRun from len) where
-  pub filed-cut : run-at bytes (from + len) ≡ RunCut → Torn ≡ filed-at bytes at
-  unfolding filed-at then-read
-  filed-cut e =
-      sym (ap (parts-told bytes at) (section-whole bytes at one 1
-      ∙ ap (λ x. then-read x (λ ss later. FRONT (take len (drop from bytes) ∷ ss) later)) (section-cut bytes (from + len) 0 e)))
-
-  pub filed-whole : {from₂ len₂ : ℕ} → run-at bytes (from + len) ≡ WholeRun from₂ len₂
-      → Filed (span from len) (span from₂ len₂) (from₂ + len₂) ≡ filed-at bytes at
-  unfolding filed-at then-read
-  filed-whole {from₂} {len₂} two =
-      let job = run-size bytes at one in
-      let text = run-size bytes (from + len) two in
-      let there : at + 4 + length (take len (drop from bytes)) + 4 ≡ from₂ =
-      omega (arith, job, run-place bytes at one, run-place bytes (from + len) two) in
-      sym (ap (parts-told bytes at) (section-whole bytes at one 1
-      ∙ ap (λ x. then-read x (λ ss later. FRONT (take len (drop from bytes) ∷ ss) later)) (one-section bytes (from + len) two))
-      ∙ rw (there, job, text, run-end bytes (from + len) two, ← run-place bytes at one) refl)
+  pub filed-whole : {job text : Span} → runs-at bytes at ≡ Both job text → Known Filed job text (text .at + text .len) ≡ filed-at bytes at
+  unfolding filed-at
+  filed-whole {job} {text} e =
+      let f = runs-found bytes at e in
+      let long = part-long bytes job (f .within) in
+      let there : at + 4 + length (part bytes job) + 4 ≡ text .at = omega (arith, long, f .place, f .place₂) in
+      let spans : Known Filed (span (at + 4) (length (part bytes job))) (span (at + 4 + length (part bytes job) + 4) (length (part bytes text))) (length bytes - length (drop (text .at + text .len) bytes)) ≡ Known Filed job text (text .at + text .len) =
+      ap₂ (λ s t. Known Filed s t (length bytes - length (drop (text .at + text .len) bytes))) (ap₂ span (sym (f .place)) long) (ap₂ span there (part-long bytes text (f .within₂)))
+      ∙ ap (Known Filed job text) (span-end bytes text (f .within₂)) in
+      sym (ap (parts-told bytes at) (two-sections (drop at bytes) ∙ runs-front bytes at e (λ job text. job ∷ text ∷ [])) ∙ spans)
 
 -- the loop over sections
 
@@ -106,13 +92,13 @@ module _ {bytes : List ℕ} {from count at left : ℕ} (so-far : SectionsSoFar b
     sections-torn e =
         sym (so-far .same ∙ ap (λ k. past-told bytes (sections k (drop at bytes))) one-less ∙ ap (past-told bytes) (section-cut bytes at (left - 1) e))
 
-    pub sections-on : {start len : ℕ} → run-at bytes at ≡ WholeRun start len → SectionsSoFar bytes from count (start + len) (left - 1)
-    sections-on {start} {len} e =
+    pub sections-on : {s : Span} → run-at bytes at ≡ WholeRun s → SectionsSoFar bytes from count (s .at + s .len) (left - 1)
+    sections-on {s} e =
         record {
-          within = run-within bytes at e;
+          within = run-found bytes at e .within;
           same =
-              so-far .same ∙ ap (λ k. past-told bytes (sections k (drop at bytes))) one-less ∙ ap (past-told bytes) (section-whole bytes at e (left - 1))
-              ∙ past-then bytes (take len (drop start bytes)) (sections (left - 1) (drop (start + len) bytes));
+              so-far .same ∙ ap (λ k. past-told bytes (sections k (drop at bytes))) one-less ∙ ap (past-told bytes) (section-whole bytes at (left - 1) e)
+              ∙ past-then bytes (part bytes s) (sections (left - 1) (drop (s .at + s .len) bytes));
         }
 
 pub other-torn : (bytes : List ℕ) (at count : ℕ) → past-told bytes (sections count (drop at bytes)) ≡ PastTorn → Torn ≡ other-at bytes at count
@@ -121,14 +107,14 @@ other-torn bytes at count e = go (sections count (drop at bytes)) e
   where
     go : (x : AtFront (List (List ℕ))) → past-told bytes x ≡ PastTorn → Torn ≡ others-told bytes x
     go CUT told = refl
-    go (FRONT ss rest) told = absurd (let z : _≡_ {A = ℕ} 0 1 = cc in omega arith)
+    go (FRONT ss rest) told = never cc
 
 pub other-whole : (bytes : List ℕ) (at count : ℕ) {next : ℕ} → past-told bytes (sections count (drop at bytes)) ≡ At next → Other next ≡ other-at bytes at count
 unfolding other-at
 other-whole bytes at count {next} e = go (sections count (drop at bytes)) e
   where
     go : (x : AtFront (List (List ℕ))) → past-told bytes x ≡ At next → Other next ≡ others-told bytes x
-    go CUT told = absurd (let z : _≡_ {A = ℕ} 0 1 = cc in omega arith)
+    go CUT told = never cc
     go (FRONT ss rest) told = ap Other (let same : next ≡ length bytes - length rest = cc in same)
 
 -- an entry, by its number of sections

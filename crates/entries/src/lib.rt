@@ -4,23 +4,28 @@ ghost use Prim.Native.Nat.{_≤_};
 ghost use lib.ListN.{length, drop};
 ghost use Rattle.filing.specs.Format.{sections};
 ghost use Rattle.entries.specs.Entries.{done-at, entry-at, filed-at, next-told, other-at, past-told};
+use filing::EntryKind;
 use stored::NUMBER;
 use stored::NumberAt;
 use stored::RunAt;
+use stored::RunsAt;
+use stored::Span;
 use stored::number_at;
 use stored::run_at;
-
-// Bytes of a roll: where they begin, and how many they are.
-pub struct Span {
-    pub at: usize,
-    pub len: usize,
-}
+use stored::runs_at;
 
 pub enum EntryAt {
     Torn,
-    Filed { job: Span, text: Span, next: usize },
-    Done { job: Span, next: usize },
-    Other { next: usize },
+    // Where its job number and its text stand; a DONE has no text, and so the span of no bytes.
+    Known {
+        kind: EntryKind,
+        job: Span,
+        text: Span,
+        next: usize,
+    },
+    Other {
+        next: usize,
+    },
 }
 
 // Where sections end.
@@ -39,8 +44,8 @@ fn pass_sections(roll: &[u8], from: usize, count: u32) -> Past
     while 0 < left {
         match run_at(roll, at) {
             RunAt::Cut => return Past::Torn,
-            RunAt::Whole { from, len } => {
-                at = from + len;
+            RunAt::Whole(section) => {
+                at = section.at + section.len;
                 left -= 1;
             }
         }
@@ -54,9 +59,11 @@ fn done_at(roll: &[u8], at: usize) -> EntryAt
 {
     match run_at(roll, at) {
         RunAt::Cut => EntryAt::Torn,
-        RunAt::Whole { from, len } => EntryAt::Done {
-            job: Span { at: from, len },
-            next: from + len,
+        RunAt::Whole(job) => EntryAt::Known {
+            kind: EntryKind::Done,
+            job,
+            text: Span { at: 0, len: 0 },
+            next: job.at + job.len,
         },
     }
 }
@@ -65,16 +72,16 @@ fn done_at(roll: &[u8], at: usize) -> EntryAt
 fn filed_at(roll: &[u8], at: usize) -> EntryAt
     ensures { λ r. ⌜ r ≡ filed-at (now (roll .entry)) at ⌝ }
 {
-    let RunAt::Whole { from, len } = run_at(roll, at) else {
-        return EntryAt::Torn;
-    };
-    let job = Span { at: from, len };
-    match run_at(roll, from + len) {
-        RunAt::Cut => EntryAt::Torn,
-        RunAt::Whole { from, len } => EntryAt::Filed {
+    match runs_at(roll, at) {
+        RunsAt::Cut => EntryAt::Torn,
+        RunsAt::Both {
+            first: job,
+            second: text,
+        } => EntryAt::Known {
+            kind: EntryKind::Filed,
             job,
-            text: Span { at: from, len },
-            next: from + len,
+            text,
+            next: text.at + text.len,
         },
     }
 }
@@ -109,7 +116,11 @@ pub fn next_of(entry: EntryAt, end: usize) -> usize
     match entry {
         EntryAt::Torn => end,
         EntryAt::Other { next } => next,
-        EntryAt::Done { job, next } => next,
-        EntryAt::Filed { job, text, next } => next,
+        EntryAt::Known {
+            kind,
+            job,
+            text,
+            next,
+        } => next,
     }
 }

@@ -6,27 +6,32 @@ use mathlib.Core.List.{List, reverse}
 use borrow.Author.Tests.{le-leb, lt-leb}
 use lib.ListN.{length}
 use Rattle.plan.specs.Options.{_else_}
-use Rattle.filing.specs.Answers.{Edition, READS, REFUSES, add-to, longest, made, new-bytes, no-room, not-added, unless}
+use Rattle.filing.specs.Answers.{Edition, READS, REFUSES, add-to, longest, made, new-bytes, new-entry, no-room, not-added, unless}
 use Rattle.filing.specs.Format.{Entry}
+use Rattle.filing.specs.Rules.{fault}
 use Rattle.filing.specs.declared.RollRefusal.{RollRefusal}
 use Rattle.filing.specs.declared.RollRefusal.the-variants.{NoRoom}
 
-module _ (ed : Edition) (buffer : List ℕ) (fault : List Entry → Option RollRefusal) (parts : List (List ℕ)) where
-  pub roll-first : (q : RollRefusal) → add-to ed buffer (REFUSES q) fault parts ≡ not-added buffer q
+module _ (ed : Edition) (buffer : List ℕ) (parts : List (List ℕ)) where
+  pub roll-first : (q : RollRefusal) → add-to ed buffer (REFUSES q) parts ≡ not-added buffer q
   unfolding add-to
   roll-first q = refl
 
   module _ (es : List Entry) (end : ℕ) where
-    pub fault-first : {q : RollRefusal} → fault (reverse es) ≡ some q → add-to ed buffer (READS es end) fault parts ≡ not-added buffer q
+    -- what is wrong with the new entry
+    abbrev pub wrong : Option RollRefusal
+    wrong = fault (ed .limits) (reverse es) (new-entry end parts)
+
+    pub fault-first : {q : RollRefusal} → wrong ≡ some q → add-to ed buffer (READS es end) parts ≡ not-added buffer q
     unfolding add-to unless _else_
     fault-first e = rw e refl
 
-    pub room-last : fault (reverse es) ≡ none → length buffer < end + length (new-bytes ed end parts)
-        → add-to ed buffer (READS es end) fault parts ≡ not-added buffer (NoRoom (min (end + length (new-bytes ed end parts)) longest))
+    pub room-last : wrong ≡ none → length buffer < end + length (new-bytes ed end parts)
+        → add-to ed buffer (READS es end) parts ≡ not-added buffer (NoRoom (min (end + length (new-bytes ed end parts)) longest))
     unfolding add-to unless _else_ no-room
     room-last e h = rw (e, lt-leb (end + length (new-bytes ed end parts)) (length buffer) h) refl
 
-    pub entry-made : fault (reverse es) ≡ none → end + length (new-bytes ed end parts) ≤ length buffer
-        → add-to ed buffer (READS es end) fault parts ≡ made ed buffer (reverse es) end parts
+    pub entry-made : wrong ≡ none → end + length (new-bytes ed end parts) ≤ length buffer
+        → add-to ed buffer (READS es end) parts ≡ made ed buffer (reverse es) end parts
     unfolding add-to unless _else_ no-room
     entry-made e h = rw (e, le-leb (end + length (new-bytes ed end parts)) (length buffer) h) refl

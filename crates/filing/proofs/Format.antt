@@ -5,7 +5,7 @@ use mathlib.Core.List.{List, [], _∷_, _++_}
 use native.Mathlib.Omega.{arith}
 use lib.ListN.{length, drop, length-drop}
 use lib.Seq.{drop-cons, drop-drop}
-use Rattle.stored.specs.Counted.{AtFront, CUT, FRONT, counted, number, so-many, then-read}
+use Rattle.stored.specs.Counted.{AtFront, CUT, FRONT, counted, number, so-many, then-read, two-counted}
 use Rattle.stored.proofs.Counted.{number-front, so-many-parts, then-parts}
 use Rattle.filing.specs.Format.{Entry, Listing, entry, listed, listing, sections, with-first}
 use Rattle.filing.specs.EntriesStand.{EntriesStand}
@@ -45,6 +45,21 @@ section-parts k bs {ss} {rest} e =
     let (s, between, one, two) = then-parts (counted bs) (λ s later. then-read (sections k later) (λ more last. FRONT (s ∷ more) last)) e in
     let (more, last, three, four) = then-parts (sections k between) (λ more last. FRONT (s ∷ more) last) two in
     (s, between, more, one, three ∙ ap (FRONT more) (let same : last ≡ rest = cc in same), let same : ss ≡ s ∷ more = cc in same)
+
+-- two sections are two runs in a row
+pub two-sections : (bs : List ℕ) → sections 2 bs ≡ two-counted (λ job text. job ∷ text ∷ []) bs
+unfolding sections two-counted then-read
+two-sections bs = go (counted bs)
+  where
+    second : (s : List ℕ) (x : AtFront (List ℕ))
+        → then-read (then-read x (λ t rest. FRONT (t ∷ []) rest)) (λ ss later. FRONT (s ∷ ss) later) ≡ then-read x (λ t later. FRONT (s ∷ t ∷ []) later)
+    second s CUT = refl
+    second s (FRONT t rest) = refl
+
+    go : (x : AtFront (List ℕ)) → then-read x (λ s rest. then-read (sections 1 rest) (λ ss later. FRONT (s ∷ ss) later))
+        ≡ then-read x (λ s rest. then-read (counted rest) (λ t later. FRONT (s ∷ t ∷ []) later))
+    go CUT = refl
+    go (FRONT s rest) = second s (counted rest)
 
 sections-behind : (k : ℕ) (bs : List ℕ) {ss : List (List ℕ)} {rest : List ℕ} → sections k bs ≡ FRONT ss rest → LeftBehind bs rest
 unfolding sections
@@ -110,6 +125,16 @@ listing-cut bytes at e h = go (drop at bytes) e
 unfoldable pub in-front : List Entry → Listing → Listing
 in-front [] l = l
 in-front (e ∷ es) l = with-first e (in-front es l)
+
+pub front-entries : (es : List Entry) (l : Listing) → in-front es l .entries ≡ es ++ l .entries
+unfolding in-front with-first
+front-entries [] l = refl
+front-entries (e ∷ es) l = ap (e ∷_) (front-entries es l)
+
+pub front-end : (es : List Entry) (l : Listing) → in-front es l .end ≡ l .end
+unfolding in-front with-first
+front-end [] l = refl
+front-end (e ∷ es) l = front-end es l
 
 pub listing-stands : (bytes : List ℕ) (from upto : ℕ) (es : List Entry) → EntriesStand bytes from es upto
     → listing 0 from (drop from bytes) ≡ in-front es (listing 0 upto (drop upto bytes))

@@ -1,4 +1,5 @@
 pub mod Adding
+pub mod Exactly
 pub mod Format
 pub mod Growing
 pub mod NextEntry
@@ -7,3 +8,4 @@ pub mod Reading
 pub mod Rules
 pub mod Sound
 pub mod Texts
+pub mod Worked

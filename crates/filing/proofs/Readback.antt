@@ -6,12 +6,8 @@ use lib.ListN.{length}
 use Rattle.stored.specs.Counted.{FRONT, counted, four-bytes, number, then-read, with-count}
 use Rattle.stored.proofs.Readback.{counted-back, number-back}
 use Rattle.filing.specs.Answers.{entry-bytes, longest, sections-bytes}
+use Rattle.filing.specs.EntriesStand.{Storable}
 use Rattle.filing.specs.Format.{entry, sections}
-
--- sections whose counts fit into four bytes
-abbrev pub Storable : List (List ℕ) → Type 0
-Storable [] = Unit {0}
-Storable (s ∷ ss) = (length s ≤ longest) × Storable ss
 
 sections-back : (ss : List (List ℕ)) (more : List ℕ) → Storable ss → sections (length ss) (sections-bytes ss ++ more) ≡ FRONT ss more
 unfolding sections sections-bytes then-read

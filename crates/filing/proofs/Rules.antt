@@ -1,50 +1,138 @@
--- Laws of the rules: what an entry that obeys them has, and that adding refuses, but for room, just what the reader would.
+-- Laws of the rules: what an entry has with which nothing is wrong, and what stands filed in a roll whose entries obey them.
 use Prim.Native.Nat.{ℕ}
-use mathlib.Core.Path.{_≡_, refl}
-use mathlib.Core.Logic.{_↔_}
-use mathlib.Core.Bool.{Bool, true, false, cond, _&&_}
-use mathlib.Core.Option.{none, some}
-use mathlib.Core.List.{List}
+use mathlib.Core.Path.{_≡_, refl, ap, sym, _∙_}
+use mathlib.Core.Bool.{Bool, true, false, cond}
+use mathlib.Core.Option.{Option, none, some}
+use mathlib.Core.List.{List, [], _∷_, _++_, append-assoc, append-nil, reverse, reverse-cons, reverseAux}
 use Rattle.kinds.specs.Limits.{Limits}
-use Rattle.plan.proofs.Tests.{and-true, false-is-not-true, never}
-use Rattle.filing.specs.Answers.{after-done, closing-fault, filing-fault, unfinished}
+use Rattle.plan.specs.Options.{is-none}
+use Rattle.kinds.proofs.Tests.{never}
+use Rattle.stored.specs.Same.{same}
+use Rattle.stored.proofs.Same.{same-equal}
 use Rattle.filing.specs.Format.{Entry}
-use Rattle.filing.specs.Rules.{DONE, DONE-AT, FILED, FILED-AT, JobStanding, UNFILED, is-finished, is-job, is-printed, may-close, may-file, obeys, standing}
+use Rattle.filing.specs.Rules.{DONE, DONE-AT, EntrySays, FILED, FILED-AT, JobStanding, NEITHER, UNFILED, after-done, broken, fault, fault-of, is-finished, is-job, is-printed, newest, says, standing, unfinished}
+use Rattle.filing.specs.declared.RollRefusal.{RollRefusal}
 use Rattle.filing.specs.declared.RollRefusal.the-variants.{BadJob, BadText, Unfinished}
 
-module _ (lim : Limits) (past : List Entry) (job : List ℕ) where
-  pub obeys-filed : (text : List ℕ) → obeys lim past (FILED job text) ≡ true → (is-job job ≡ true) × (is-printed lim text ≡ true) × (may-file (standing job past) ≡ true)
-  unfolding obeys
-  obeys-filed text good =
-      let (parts, may) = and-true (is-job job && is-printed lim text) (may-file (standing job past)) good in
-      let (a, b) = and-true (is-job job) (is-printed lim text) parts in
-      (a, b, may)
+module _ (lim : Limits) (past : List Entry) where
+  -- by what the entry says
+  pub said-fine : (e : Entry) → fault lim past e ≡ none → {s : EntrySays} → says (e .parts) ≡ s → fault-of lim past (e .place) s ≡ none
+  unfolding fault
+  said-fine e fine is = ap (fault-of lim past (e .place)) (sym is) ∙ fine
 
-  pub obeys-done : obeys lim past (DONE job) ≡ true → (is-job job ≡ true) × (may-close lim (standing job past) ≡ true)
-  unfolding obeys
-  obeys-done good = and-true (is-job job) (may-close lim (standing job past)) good
-
-  pub filing-exactly : (text : List ℕ) → (filing-fault lim past job text ≡ none) ↔ (obeys lim past (FILED job text) ≡ true)
-  unfolding filing-fault obeys after-done may-file
-  filing-exactly text = go (is-job job) (is-printed lim text) (standing job past)
+  -- where none breaks a rule, nothing is wrong with the first, nor with those behind it
+  pub first-fine : (e : Entry) (es : List Entry) → broken lim past (e ∷ es) ≡ none → (fault lim past e ≡ none) × (broken lim (e ∷ past) es ≡ none)
+  unfolding broken is-none
+  first-fine e es h = go (fault lim past e) refl h
     where
-      go : (a b : Bool) (s : JobStanding) → (cond a (cond b (after-done s) (some BadText)) (some BadJob) ≡ none) ↔ (((a && b) && may-file s) ≡ true)
-      go true true UNFILED = (λ h. refl, λ h. refl)
-      go true true (FILED-AT p t) = (λ h. refl, λ h. refl)
-      go true true (DONE-AT p) = (λ h. never cc, λ h. false-is-not-true h)
-      go true false s = (λ h. never cc, λ h. false-is-not-true h)
-      go false b s = (λ h. never cc, λ h. false-is-not-true h)
+      go : (o : Option RollRefusal) → fault lim past e ≡ o → cond (is-none o) (broken lim (e ∷ past) es) (some (e .place)) ≡ none
+          → (fault lim past e ≡ none) × (broken lim (e ∷ past) es ≡ none)
+      go none fine more = (fine, more)
+      go (some r) fine more = never cc
 
-  pub closing-exactly : (closing-fault lim past job ≡ none) ↔ (obeys lim past (DONE job) ≡ true)
-  unfolding closing-fault obeys unfinished may-close
-  closing-exactly = go (is-job job) (standing job past)
+  module _ (place : ℕ) (job : List ℕ) where
+    pub filed-fine : (text : List ℕ) → fault-of lim past place (FILED job text) ≡ none
+        → (is-job job ≡ true) × (is-printed lim text ≡ true) × (after-done (standing job past) ≡ none)
+    unfolding fault-of
+    filed-fine text h = go (is-job job) (is-printed lim text) refl refl h
+      where
+        go : (a b : Bool) → is-job job ≡ a → is-printed lim text ≡ b → cond a (cond b (after-done (standing job past)) (some BadText)) (some BadJob) ≡ none
+            → (is-job job ≡ true) × (is-printed lim text ≡ true) × (after-done (standing job past) ≡ none)
+        go true true j t e = (j, t, e)
+        go true false j t e = never cc
+        go false b j t e = never cc
+
+    pub done-fine : fault-of lim past place (DONE job) ≡ none → (is-job job ≡ true) × (unfinished lim (standing job past) ≡ none)
+    unfolding fault-of
+    done-fine h = go (is-job job) refl h
+      where
+        go : (a : Bool) → is-job job ≡ a → cond a (unfinished lim (standing job past)) (some BadJob) ≡ none → (is-job job ≡ true) × (unfinished lim (standing job past) ≡ none)
+        go true j e = (j, e)
+        go false j e = never cc
+
+-- what may be done has a text that stands filed and finished
+pub finished-when-fine : (lim : Limits) (s : JobStanding) → unfinished lim s ≡ none → (place : ℕ) × (text : List ℕ) × (s ≡ FILED-AT place text) × (is-finished lim text ≡ true)
+unfolding unfinished
+finished-when-fine lim UNFILED h = never cc
+finished-when-fine lim (FILED-AT place text) h = go (is-finished lim text) refl h
+  where
+    go : (b : Bool) → is-finished lim text ≡ b → cond b none (some (Unfinished place)) ≡ none
+        → (p : ℕ) × (t : List ℕ) × (FILED-AT place text ≡ FILED-AT p t) × (is-finished lim t ≡ true)
+    go true is e = (place, text, refl, is)
+    go false is e = never cc
+finished-when-fine lim (DONE-AT place) h = never cc
+
+-- where entries obey the rules, what stands filed is a job number's printed text
+module _ (lim : Limits) (job : List ℕ) where
+  pub record FiledRight (text : List ℕ) : Type 0 where
+    pub its-job : is-job job ≡ true
+    pub its-text : is-printed lim text ≡ true
+
+  abbrev IfFiled : List Entry → Type 0
+  IfFiled past = (place : ℕ) (text : List ℕ) → standing job past ≡ FILED-AT place text → FiledRight text
+
+  -- one entry more
+  filed-here : (past : List Entry) (f : Entry) → fault lim past f ≡ none → IfFiled past → IfFiled (f ∷ past)
+  unfolding standing newest
+  filed-here past f good before place text e = by (says (f .parts)) refl e
     where
-      by : (p : ℕ) (b : Bool) → (cond b none (some (Unfinished p)) ≡ none) ↔ (b ≡ true)
-      by p true = (λ h. refl, λ h. refl)
-      by p false = (λ h. never cc, λ h. false-is-not-true h)
+      by-filed : (j t : List ℕ) → says (f .parts) ≡ FILED j t → (b : Bool) → same j job ≡ b → cond b (FILED-AT (f .place) t) (standing job past) ≡ FILED-AT place text → FiledRight text
+      by-filed j t said true is e =
+          let fine = filed-fine lim past (f .place) j t (said-fine lim past f good said) in
+          let own : t ≡ text = cc in
+          record { its-job = ap is-job (sym (same-equal j job is)) ∙ fine .0; its-text = ap (is-printed lim) (sym own) ∙ fine .1 }
+      by-filed j t said false is e = before place text e
 
-      go : (a : Bool) (s : JobStanding) → (cond a (unfinished lim s) (some BadJob) ≡ none) ↔ ((a && may-close lim s) ≡ true)
-      go true UNFILED = (λ h. never cc, λ h. false-is-not-true h)
-      go true (FILED-AT p t) = by p (is-finished lim t)
-      go true (DONE-AT p) = (λ h. never cc, λ h. false-is-not-true h)
-      go false s = (λ h. never cc, λ h. false-is-not-true h)
+      by-done : (b : Bool) → cond b (DONE-AT (f .place)) (standing job past) ≡ FILED-AT place text → FiledRight text
+      by-done true e = never cc
+      by-done false e = before place text e
+
+      by : (x : EntrySays) → says (f .parts) ≡ x → newest job (f .place) x (standing job past) ≡ FILED-AT place text → FiledRight text
+      by (FILED j t) said e = by-filed j t said (same j job) refl e
+      by (DONE j) said e = by-done (same j job) e
+      by NEITHER said e = before place text e
+
+  filed-behind : (past es : List Entry) → broken lim past es ≡ none → IfFiled past → IfFiled (reverseAux es past)
+  filed-behind past [] h before = before
+  filed-behind past (f ∷ es) h before =
+      let (fine, more) = first-fine lim past f es h in filed-behind (f ∷ past) es more (filed-here past f fine before)
+
+  pub filed-right : (es : List Entry) → broken lim [] es ≡ none → {place : ℕ} {text : List ℕ} → standing job (reverse es) ≡ FILED-AT place text → FiledRight text
+  unfolding standing
+  filed-right es h {place} {text} e = filed-behind [] es h (λ p t nobody. never cc) place text e
+
+-- the rules look at earlier entries only
+module _ (lim : Limits) where
+  pub broken-on : (past es more : List Entry) → broken lim past es ≡ none → broken lim past (es ++ more) ≡ broken lim (reverse es ++ past) more
+  unfolding broken is-none
+  broken-on past [] more h = refl
+  broken-on past (e ∷ es) more h =
+      let (fine, later) = first-fine lim past e es h in
+      ap (λ o. cond (is-none o) (broken lim (e ∷ past) (es ++ more)) (some (e .place))) fine ∙ broken-on (e ∷ past) es more later
+      ∙ ap (λ z. broken lim z more) (sym (append-assoc (reverse es) (e ∷ []) past) ∙ ap (_++ past) (sym (reverse-cons e es)))
+
+  -- a front part of what obeys the rules obeys them
+  pub broken-front : (past xs ys : List Entry) → broken lim past (xs ++ ys) ≡ none → broken lim past xs ≡ none
+  unfolding broken is-none
+  broken-front past [] ys h = refl
+  broken-front past (e ∷ xs) ys h =
+      let (fine, later) = first-fine lim past e (xs ++ ys) h in
+      ap (λ o. cond (is-none o) (broken lim (e ∷ past) xs) (some (e .place))) fine ∙ broken-front (e ∷ past) xs ys later
+
+  module _ (es : List Entry) where
+    behind : broken lim [] es ≡ none → (more : List Entry) → broken lim [] (es ++ more) ≡ broken lim (reverse es) more
+    behind fine more = broken-on [] es more fine ∙ ap (λ z. broken lim z more) (append-nil (reverse es))
+
+    -- one entry more, with which nothing is wrong; and one with which something is, whatever comes behind it
+    pub obeyed-on : broken lim [] es ≡ none → (e : Entry) → fault lim (reverse es) e ≡ none → broken lim [] (es ++ e ∷ []) ≡ none
+    unfolding broken is-none
+    obeyed-on fine e h = behind fine (e ∷ []) ∙ ap (λ o. cond (is-none o) none (some (e .place))) h
+
+    pub broken-at : broken lim [] es ≡ none → (e : Entry) {r : RollRefusal} → fault lim (reverse es) e ≡ some r → (more : List Entry) → broken lim [] (es ++ e ∷ more) ≡ some (e .place)
+    unfolding broken is-none
+    broken-at fine e h more = behind fine (e ∷ more) ∙ ap (λ o. cond (is-none o) (broken lim (e ∷ reverse es) more) (some (e .place))) h
+
+    -- an entry among others
+    pub entry-fine : (e : Entry) (after : List Entry) → broken lim [] (es ++ e ∷ after) ≡ none
+        → (fault lim (reverse es) e ≡ none) × (broken lim (e ∷ reverse es) after ≡ none)
+    entry-fine e after h = first-fine lim (reverse es) e after (sym (behind (broken-front [] es (e ∷ after) h) (e ∷ after)) ∙ h)

@@ -1,23 +1,23 @@
 -- A roll that reads, by its bytes: the first one, the entries one behind the other, and what stands behind them is torn.
-use Prim.Native.Nat.{ℕ, _+_, _≤_, _<_}
+use Prim.Native.Nat.{ℕ, _≤_}
 use mathlib.Core.Path.{_≡_, refl, ap, subst, _∙_}
 use mathlib.Core.Logic.{_⊎_, inl, inr}
 use mathlib.Core.Bool.{Bool, true, false, cond}
 use mathlib.Core.Option.{Option, none, some}
-use mathlib.Core.List.{List, [], _∷_, _++_}
+use mathlib.Core.List.{List, [], _∷_}
 use native.Mathlib.Omega.{arith}
 use borrow.Author.Tests.{eqb-true, le-ltb, ltb-false}
 use lib.Dec.{eqb, ltb}
 use lib.ListN.{length, drop, length-append}
 use Rattle.kinds.specs.Limits.{standard}
-use Rattle.plan.proofs.Tests.{never}
+use Rattle.kinds.proofs.Tests.{never}
 use Rattle.stored.specs.Counted.{AtFront, CUT, FRONT}
 use Rattle.filing.specs.Answers.{READS, REFUSES, by-rules, edition-1, judged, longest, unbroken}
 use Rattle.filing.specs.Format.{Entry, Listing, entry, listing, roll, with-first}
 use Rattle.filing.specs.Rules.{broken}
-use Rattle.filing.specs.EntriesStand.{EntriesStand}
+use Rattle.filing.specs.EntriesStand.{EntriesBefore, EntriesStand}
 use Rattle.filing.specs.declared.RollRefusal.the-variants.{TooLong}
-use Rattle.filing.proofs.Format.{stands-within, entry-there, in-front, listing-cut, listing-stands, listing-stands-up, listing-whole}
+use Rattle.filing.proofs.Format.{stands-within, entry-there, front-entries, in-front, listing-cut, listing-stands, listing-stands-up, listing-whole}
 
 -- a roll of no bytes
 pub record Blank (bytes : List ℕ) (es : List Entry) (end : ℕ) : Type 0 where
@@ -33,11 +33,6 @@ pub record SoundRoll (bytes : List ℕ) (es : List Entry) (end : ℕ) : Type 0 w
   pub within : end ≤ length bytes
   pub torn : entry (drop end bytes) ≡ CUT
   pub obeyed : broken standard [] es ≡ none
-
-in-front-entries : (es : List Entry) (l : Listing) → in-front es l .entries ≡ es ++ l .entries
-unfolding in-front with-first
-in-front-entries [] l = refl
-in-front-entries (e ∷ es) l = ap (e ∷_) (in-front-entries es l)
 
 in-front-whole : (es : List Entry) (end : ℕ) → in-front es (record { entries = []; end = end }) ≡ record { entries = es; end = end }
 unfolding in-front with-first
@@ -59,7 +54,7 @@ listing-torn bytes at h = go (entry (drop end bytes)) refl
         omega (
           arith,
           ap (λ (l : Listing). length (l .entries)) same,
-          ap length (in-front-entries (listing 0 at (drop at bytes) .entries) (listing 0 end (drop end bytes))),
+          ap length (front-entries (listing 0 at (drop at bytes) .entries) (listing 0 end (drop end bytes))),
           length-append (listing 0 at (drop at bytes) .entries) (listing 0 end (drop end bytes) .entries),
         )
 
@@ -118,18 +113,25 @@ sound-reads bytes {es} {end} s =
     rw (le-ltb longest (length bytes) (s .short)) (ap (λ bs. by-rules standard (roll 1 bs)) (s .first) ∙ ap (λ (l : Listing). unbroken (broken standard [] (l .entries)) l) listed
     ∙ ap (λ x. unbroken x (record { entries = es; end = end })) (s .obeyed))
 
--- the same of every roll that reads, where only its end is asked for
-pub record WithEnd (bytes : List ℕ) (es : List Entry) (end : ℕ) : Type 0 where
-  pub short : length bytes ≤ longest
-  pub within : end ≤ length bytes
-  pub none-there : end ≡ 0 → es ≡ []
-  pub stand : 0 < end → EntriesStand bytes 1 es end
-
-pub with-end : (bytes : List ℕ) {es : List Entry} {end : ℕ} → judged edition-1 bytes ≡ READS es end → WithEnd bytes es end
-with-end bytes {es} {end} e = go (reads-sound bytes e)
+-- the entries of every roll that reads stand before its end
+pub reads-before : (bytes : List ℕ) {es : List Entry} {end : ℕ} → judged edition-1 bytes ≡ READS es end → EntriesBefore bytes es end
+unfolding broken
+reads-before bytes {es} {end} e = go (reads-sound bytes e)
   where
-    go : Blank bytes es end ⊎ SoundRoll bytes es end → WithEnd bytes es end
+    go : Blank bytes es end ⊎ SoundRoll bytes es end → EntriesBefore bytes es end
     go (inl b) =
-        record { short = omega (arith, ap length (b .no-bytes)); within = omega (arith, b .at-0); none-there = λ _. b .no-entries; stand = λ more. absurd (omega (arith, b .at-0)) }
+        record {
+          short = omega (arith, ap length (b .no-bytes));
+          within = omega (arith, b .at-0);
+          none-there = λ _. b .no-entries;
+          stand = λ more. absurd (omega (arith, b .at-0));
+          obeyed = ap (broken standard []) (b .no-entries);
+        }
     go (inr s) =
-        record { short = s .short; within = s .within; none-there = λ z. absurd (omega (arith, z, stands-within bytes 1 end es (s .stand))); stand = λ _. s .stand }
+        record {
+          short = s .short;
+          within = s .within;
+          none-there = λ z. absurd (omega (arith, z, stands-within bytes 1 end es (s .stand)));
+          stand = λ _. s .stand;
+          obeyed = s .obeyed;
+        }

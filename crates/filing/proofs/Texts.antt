@@ -9,21 +9,17 @@ use Rattle.rules.specs.Rewriting.{finished}
 use Rattle.kinds.specs.Limits.{Limits}
 use Rattle.plan.specs.Read.{acceptable}
 use Rattle.plan.proofs.Acceptable.{AcceptableText, acceptable-plan, accepted-acceptable, accepted-plan}
-use Rattle.plan.proofs.Tests.{and-true}
+use Rattle.kinds.proofs.Tests.{and-true}
 use Rattle.stored.specs.Same.{same}
 use Rattle.stored.proofs.Same.{same-equal}
 use Rattle.filing.specs.Rules.{is-finished, is-printed}
 
 module _ (lim : Limits) (text : List ℕ) where
-  -- a text that is not acceptable is neither printed nor finished
+  -- a text that is not acceptable is not printed
   module _ (h : acceptable lim text ≡ false) where
     pub unacceptable-not-printed : is-printed lim text ≡ false
     unfolding is-printed
     unacceptable-not-printed = ap (_&& same text (print (plan-of (lim .token) text))) h
-
-    pub unacceptable-not-finished : is-finished lim text ≡ false
-    unfolding is-finished
-    unacceptable-not-finished = ap (_&& finished (plan-of (lim .token) text)) h
 
   -- one that is accepted is printed when it is the printed text of what it reads as, and finished when that plan is
   module _ {p : Plan ℕ} (h : accept lim (lim .cells) text ≡ ACCEPTED p) where

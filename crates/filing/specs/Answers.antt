@@ -7,16 +7,19 @@ use lib.Dec.{eqb, leb, ltb}
 use lib.ListN.{length, take, drop}
 use Rattle.plan.specs.Options.{_else_}
 use Rattle.kinds.specs.Limits.{Limits, standard}
-use Rattle.stored.specs.Counted.{AtFront, CUT, FRONT, four-bytes, with-count}
+use Rattle.stored.specs.Counted.{AtFront, CUT, FRONT, four-bytes, largest, with-count}
 use Rattle.filing.specs.declared.RollAnswer.{RollAnswer}
 use Rattle.filing.specs.declared.RollAnswer.the-variants.{Listed, Refused}
 use Rattle.filing.specs.declared.RollNumbers.{RollNumbers}
 use Rattle.filing.specs.declared.RollRefusal.{RollRefusal}
+use Rattle.filing.specs.declared.Sums.{Sums}
+use Rattle.filing.specs.declared.EntryKind.{EntryKind}
+use Rattle.filing.specs.declared.EntryKind.the-variants.{Filed, Done}
 use Rattle.filing.specs.declared.RollRefusal.the-variants.{TooLong, BadRoll, BadJob, BadText, AlreadyDone, Unfiled, Unfinished, NoRoom, MoreEntries}
 use Rattle.filing.specs.declared.EntryAnswer.{EntryAnswer}
 use Rattle.filing.specs.declared.EntryAnswer.the-variants.{TooLong as EntryTooLong, NoEntry, Found as FoundEntry}
 use Rattle.filing.specs.Format.{Entry, Listing, entry, roll}
-use Rattle.filing.specs.Rules.{JobStanding, UNFILED, FILED-AT, DONE-AT, broken, counts-done, counts-filed, done, filed, is-finished, is-job, is-printed, says, standing}
+use Rattle.filing.specs.Rules.{broken, counts-done, counts-filed, done, fault, filed, says}
 
 abbrev pub roll-refusal-number : RollRefusal → ℕ
 roll-refusal-number TooLong = 11
@@ -40,9 +43,18 @@ roll-refusal-place (Unfinished place) = place
 roll-refusal-place (NoRoom bytes) = bytes
 roll-refusal-place (MoreEntries entries) = entries
 
+-- the number of a roll that reads, of an entry that is added, and of one that is found
+abbrev pub listedNumber : ℕ
+listedNumber = 3
+
 abbrev pub roll-numbers : RollAnswer → RollNumbers
-roll-numbers (Listed entries filed done end) = record { number = 3; entries = entries; filed = filed; done = done; place = end }
+roll-numbers (Listed s) = record { number = listedNumber; entries = s .entries; filed = s .filed; done = s .done; place = s .end }
 roll-numbers (Refused r) = record { number = roll-refusal-number r; entries = 0; filed = 0; done = 0; place = roll-refusal-place r }
+
+abbrev pub entry-number : EntryAnswer → ℕ
+entry-number EntryTooLong = roll-refusal-number TooLong
+entry-number NoEntry = 39
+entry-number (FoundEntry job job-bytes text text-bytes) = listedNumber
 
 -- an edition of the roll: its first byte, and the limits of the plans in it
 pub record Edition : Type 0 where
@@ -52,10 +64,7 @@ pub record Edition : Type 0 where
 abbrev pub edition-1 : Edition
 edition-1 = record { first = 1; limits = standard }
 
--- the largest number that is told or stored; no roll and no buffer is longer
-abbrev pub largest : ℕ
-largest = 4294967295
-
+-- no roll and no buffer is longer
 abbrev pub longest : ℕ
 longest = largest
 
@@ -75,9 +84,12 @@ by-rules lim (some l) = unbroken (broken lim [] (l .entries)) l
 unfoldable pub judged : Edition → List ℕ → Judged
 judged ed bytes = cond (ltb longest (length bytes)) (REFUSES TooLong) (by-rules (ed .limits) (roll (ed .first) bytes))
 
--- the answer for entries that read
+-- what entries come to, and the answer for those that read
+abbrev pub sums : (past : List Entry) → (end : ℕ) → Sums
+sums past end = record { entries = length past; filed = filed past; done = done past; end = end }
+
 abbrev pub listed-as : (past : List Entry) → (end : ℕ) → RollAnswer
-listed-as past end = Listed (length past) (filed past) (done past) end
+listed-as past end = Listed (sums past end)
 
 -- Reading: the places go first into the list, and its other numbers are as they were; or the list is too short.
 pub record Read : Type 0 where
@@ -107,25 +119,7 @@ entry-told at (FRONT (a ∷ b ∷ c ∷ more) rest) = NoEntry
 unfoldable pub one-entry : (bytes : List ℕ) → (at : ℕ) → EntryAnswer
 one-entry bytes at = cond (ltb longest (length bytes)) EntryTooLong (entry-told at (entry (drop at bytes)))
 
--- Adding: what is wrong with a new entry, but for room.
-unfoldable pub after-done : JobStanding → Option RollRefusal
-after-done UNFILED = none
-after-done (FILED-AT place text) = none
-after-done (DONE-AT place) = some (AlreadyDone place)
-
-unfoldable pub filing-fault : Limits → (past : List Entry) → (job text : List ℕ) → Option RollRefusal
-filing-fault lim past job text =
-    cond (is-job job) (cond (is-printed lim text) (after-done (standing job past)) (some BadText)) (some BadJob)
-
-unfoldable pub unfinished : Limits → JobStanding → Option RollRefusal
-unfinished lim UNFILED = some Unfiled
-unfinished lim (FILED-AT place text) = cond (is-finished lim text) none (some (Unfinished place))
-unfinished lim (DONE-AT place) = some (AlreadyDone place)
-
-unfoldable pub closing-fault : Limits → (past : List Entry) → (job : List ℕ) → Option RollRefusal
-closing-fault lim past job = cond (is-job job) (unfinished lim (standing job past)) (some BadJob)
-
--- The new entry goes to the end, behind the first byte where there was none.
+-- Adding: the new entry goes to the end, behind the first byte where there was none.
 unfoldable pub sections-bytes : List (List ℕ) → List ℕ
 sections-bytes [] = []
 sections-bytes (s ∷ ss) = with-count s ++ sections-bytes ss
@@ -165,24 +159,30 @@ unfoldable pub unless : Option RollRefusal → (buffer : List ℕ) → Added →
 unless none buffer added = added
 unless (some r) buffer added = not-added buffer r
 
--- a roll that does not read is refused first, and lack of room last
-unfoldable pub add-to : Edition → (buffer : List ℕ) → Judged → (fault : List Entry → Option RollRefusal) → (parts : List (List ℕ)) → Added
-add-to ed buffer (REFUSES r) fault parts = not-added buffer r
-add-to ed buffer (READS es end) fault parts =
-    let refusal = fault (reverse es) else no-room (length buffer) (end + length (new-bytes ed end parts)) in
+-- a roll that does not read is refused first, then an entry with which something is wrong, and lack of room last
+unfoldable pub add-to : Edition → (buffer : List ℕ) → Judged → (parts : List (List ℕ)) → Added
+add-to ed buffer (REFUSES r) parts = not-added buffer r
+add-to ed buffer (READS es end) parts =
+    let refusal = fault (ed .limits) (reverse es) (new-entry end parts) else no-room (length buffer) (end + length (new-bytes ed end parts)) in
     unless refusal buffer (made ed buffer (reverse es) end parts)
 
 -- of the buffer only the bytes in use are a roll; a longer use counts as all of it, and a buffer that is too long is refused
 unfoldable pub in-use : Edition → (buffer : List ℕ) → (used : ℕ) → Judged
 in-use ed buffer used = cond (ltb longest (length buffer)) (REFUSES TooLong) (judged ed (take used buffer))
 
+unfoldable pub add : Edition → (buffer : List ℕ) → (used : ℕ) → (parts : List (List ℕ)) → Added
+add ed buffer used parts = add-to ed buffer (in-use ed buffer used) parts
+
+-- FILED has two sections, and DONE one, which is the job number
+abbrev pub parts-of : EntryKind → (job text : List ℕ) → List (List ℕ)
+parts-of Filed job text = job ∷ text ∷ []
+parts-of Done job text = job ∷ []
+
 unfoldable pub file : Edition → (buffer : List ℕ) → (used : ℕ) → (job text : List ℕ) → Added
-file ed buffer used job text =
-    add-to ed buffer (in-use ed buffer used) (λ past. filing-fault (ed .limits) past job text) (job ∷ text ∷ [])
+file ed buffer used job text = add ed buffer used (parts-of Filed job text)
 
 unfoldable pub close-job : Edition → (buffer : List ℕ) → (used : ℕ) → (job : List ℕ) → Added
-close-job ed buffer used job =
-    add-to ed buffer (in-use ed buffer used) (λ past. closing-fault (ed .limits) past job) (job ∷ [])
+close-job ed buffer used job = add ed buffer used (parts-of Done job [])
 
 -- a count of the tally, which stops at the largest number
 unfoldable pub grown : Bool → ℕ → ℕ

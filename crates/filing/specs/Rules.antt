@@ -6,12 +6,15 @@ use mathlib.Core.Option.{Option, none, some}
 use mathlib.Core.List.{List, [], _∷_}
 use lib.Dec.{leb, ltb}
 use lib.ListN.{length}
+use Rattle.plan.specs.Options.{is-none}
 use Rattle.plan.specs.Plan.{print}
 use Rattle.plan.specs.Reading.{plan-of}
 use Rattle.rules.specs.Rewriting.{finished}
 use Rattle.kinds.specs.Limits.{Limits}
 use Rattle.plan.specs.Read.{acceptable}
 use Rattle.stored.specs.Same.{same}
+use Rattle.filing.specs.declared.RollRefusal.{RollRefusal}
+use Rattle.filing.specs.declared.RollRefusal.the-variants.{BadRoll, BadJob, BadText, AlreadyDone, Unfiled, Unfinished}
 use Rattle.filing.specs.Format.{Entry}
 
 -- FILED has two sections, the job number and the text; DONE has one, the job number
@@ -27,12 +30,15 @@ says (job ∷ text ∷ []) = FILED job text
 says (a ∷ b ∷ c ∷ more) = NEITHER
 
 -- a job number: 1 to 10 bytes `0` to `9`
+abbrev pub jobLimit : ℕ
+jobLimit = 10
+
 unfoldable pub digits : List ℕ → Bool
 digits [] = true
 digits (b ∷ bs) = (leb 48 b && leb b 57) && digits bs
 
 unfoldable pub is-job : List ℕ → Bool
-is-job job = (ltb 0 (length job) && leb (length job) 10) && digits job
+is-job job = (ltb 0 (length job) && leb (length job) jobLimit) && digits job
 
 -- an acceptable text that is the printed text of its plan, and one whose plan has no ready operator
 unfoldable pub is-printed : Limits → List ℕ → Bool
@@ -57,26 +63,32 @@ standing job [] = UNFILED
 standing job (e ∷ past) = newest job (e .place) (says (e .parts)) (standing job past)
 
 -- both are refused after that job's DONE
-unfoldable pub may-file : JobStanding → Bool
-may-file UNFILED = true
-may-file (FILED-AT place text) = true
-may-file (DONE-AT place) = false
+unfoldable pub after-done : JobStanding → Option RollRefusal
+after-done UNFILED = none
+after-done (FILED-AT place text) = none
+after-done (DONE-AT place) = some (AlreadyDone place)
 
 -- DONE is refused unless that job's last FILED text has no ready operator
-unfoldable pub may-close : Limits → JobStanding → Bool
-may-close lim UNFILED = false
-may-close lim (FILED-AT place text) = is-finished lim text
-may-close lim (DONE-AT place) = false
+unfoldable pub unfinished : Limits → JobStanding → Option RollRefusal
+unfinished lim UNFILED = some Unfiled
+unfinished lim (FILED-AT place text) = cond (is-finished lim text) none (some (Unfinished place))
+unfinished lim (DONE-AT place) = some (AlreadyDone place)
 
-unfoldable pub obeys : Limits → (past : List Entry) → EntrySays → Bool
-obeys lim past (FILED job text) = (is-job job && is-printed lim text) && may-file (standing job past)
-obeys lim past (DONE job) = is-job job && may-close lim (standing job past)
-obeys lim past NEITHER = false
+-- What is wrong with an entry behind the earlier ones, in the order in which it is asked; nothing is wrong with one that obeys the
+-- rules. The reader refuses a roll by the place of such an entry; adding tells what is wrong with a new one.
+unfoldable pub fault-of : Limits → (past : List Entry) → (place : ℕ) → EntrySays → Option RollRefusal
+fault-of lim past place (FILED job text) =
+    cond (is-job job) (cond (is-printed lim text) (after-done (standing job past)) (some BadText)) (some BadJob)
+fault-of lim past place (DONE job) = cond (is-job job) (unfinished lim (standing job past)) (some BadJob)
+fault-of lim past place NEITHER = some (BadRoll place)
+
+unfoldable pub fault : Limits → (past : List Entry) → Entry → Option RollRefusal
+fault lim past e = fault-of lim past (e .place) (says (e .parts))
 
 -- the place of the first entry that breaks a rule
 unfoldable pub broken : Limits → (past es : List Entry) → Option ℕ
 broken lim past [] = none
-broken lim past (e ∷ es) = cond (obeys lim past (says (e .parts))) (broken lim (e ∷ past) es) (some (e .place))
+broken lim past (e ∷ es) = cond (is-none (fault lim past e)) (broken lim (e ∷ past) es) (some (e .place))
 
 -- jobs with a FILED entry, each once; and jobs with a DONE
 unfoldable pub is-new : JobStanding → Bool

@@ -1,9 +1,19 @@
 // What the services of the roll answer. The definitions in specs/ speak of these types, so that a promise is one equation.
 ghost use mathlib.Core.Path.{_≡_};
-ghost use Rattle.filing.specs.Answers.{grown, roll-numbers, roll-refusal-number, roll-refusal-place};
+ghost use Prim.Native.Nat.{_<_};
+ghost use Rattle.stored.specs.Counted.{largest};
+ghost use Rattle.filing.specs.Answers.{entry-number, grown, roll-numbers, roll-refusal-number, roll-refusal-place};
+ghost use Rattle.filing.specs.EntriesStand.{one-more};
+use stored::LARGEST;
 
 // No roll and no buffer is longer.
-pub const LONGEST: usize = 4_294_967_295;
+pub const LONGEST: usize = LARGEST as usize;
+
+// The most digits of a job number.
+pub const JOB_LIMIT: usize = 10;
+
+// The number of a roll that reads, of an entry that is added, and of one that is found.
+const LISTED: u32 = 3;
 
 // The first byte of a roll.
 pub const FIRST: u8 = 1;
@@ -23,15 +33,24 @@ pub enum RollRefusal {
     MoreEntries(u32),
 }
 
+// What the entries of a roll come to: how many they are, the jobs filed and the jobs done by them, and where they end.
+pub struct Sums {
+    pub entries: u32,
+    pub filed: u32,
+    pub done: u32,
+    pub end: u32,
+}
+
 // What reading a roll and adding to it answer. A refusal counts nothing.
 pub enum RollAnswer {
-    Listed {
-        entries: u32,
-        filed: u32,
-        done: u32,
-        end: u32,
-    },
+    Listed(Sums),
     Refused(RollRefusal),
+}
+
+// What an entry is.
+pub enum EntryKind {
+    Filed,
+    Done,
 }
 
 // The five numbers of such an answer.
@@ -66,12 +85,27 @@ pub fn grown(count: u32, more: bool) -> u32
     ensures { λ r. ⌜ r ≡ grown more count ⌝ }
 {
     if more {
-        if count < 4_294_967_295 {
+        if count < LARGEST {
             return count + 1;
         }
         return count;
     }
     count
+}
+
+impl Sums {
+    // With one entry more, which counts as a job filed, or done, and ends at a place. Reading and adding count by this alone.
+    pub fn with_entry(self, filed: bool, done: bool, end: u32) -> Sums
+        requires { ⌜ self .entries < largest ⌝ }
+        ensures { λ r. ⌜ r ≡ one-more self filed done end ⌝ }
+    {
+        Sums {
+            entries: self.entries + 1,
+            filed: grown(self.filed, filed),
+            done: grown(self.done, done),
+            end,
+        }
+    }
 }
 
 impl RollRefusal {
@@ -113,17 +147,12 @@ impl RollAnswer {
         ensures { λ r. ⌜ r ≡ roll-numbers self ⌝ }
     {
         match self {
-            RollAnswer::Listed {
-                entries,
-                filed,
-                done,
-                end,
-            } => RollNumbers {
-                number: 3,
-                entries,
-                filed,
-                done,
-                place: end,
+            RollAnswer::Listed(sums) => RollNumbers {
+                number: LISTED,
+                entries: sums.entries,
+                filed: sums.filed,
+                done: sums.done,
+                place: sums.end,
             },
             RollAnswer::Refused(refusal) => RollNumbers {
                 number: refusal.number(),
@@ -132,6 +161,23 @@ impl RollAnswer {
                 done: 0,
                 place: refusal.place(),
             },
+        }
+    }
+}
+
+impl EntryAnswer {
+    pub fn number(self) -> u32
+        ensures { λ r. ⌜ r ≡ entry-number self ⌝ }
+    {
+        match self {
+            EntryAnswer::TooLong => RollRefusal::TooLong.number(),
+            EntryAnswer::NoEntry => 39,
+            EntryAnswer::Found {
+                job,
+                job_bytes,
+                text,
+                text_bytes,
+            } => LISTED,
         }
     }
 }

@@ -1,80 +1,120 @@
 -- The walk that looks for a ready operator: none is among the pieces passed, so one is in the plan exactly where one is among the
--- pieces to come.
-use Prim.Native.Nat.{ℕ, _-_, _<_}
-use mathlib.Core.Path.{_≡_, refl, ap, sym, _∙_}
-use mathlib.Core.Bool.{Bool, true, false, _&&_, _||_}
+-- pieces to come, behind so many blocks and with these bits of the open ones.
+use Prim.Native.Nat.{ℕ, zero, suc, _+_, _-_, _≤_, _<_}
+use mathlib.Core.Path.{_≡_, refl, ap, sym, subst, _∙_}
+use mathlib.Core.Bool.{Bool, true, false, _||_}
 use mathlib.Core.List.{List, [], _∷_}
 use native.Mathlib.Omega.{arith}
-use borrow.Author.Tests.{not-true, not-false}
-use lib.ListN.{length, drop}
-use Rattle.kinds.specs.Limits.{tokenLimit}
-use Rattle.plan.specs.Pieces.{Piece as PlanPiece, Shows, pieces}
+use borrow.Author.Tests.{le-leb, not-true, not-false}
+use lib.Dec.{ltb}
+use lib.ListN.{length, drop, getD, set, length-set}
+use Rattle.kinds.specs.Limits.{cellLimit, tokenLimit}
+use Rattle.kinds.specs.declared.Token.{Token as TextToken}
+use Rattle.plan.specs.Pieces.{Piece as PlanPiece, END, Closes, Shows, pieces, starts}
 use Rattle.plan.specs.Plan.{Plan}
+use Rattle.plan.specs.declared.Operator.{Operator as PlanOperator}
+use Rattle.plan.proofs.Pieces.{cells-pieces, closes-pieces}
+use Rattle.rules.specs.Leftmost.{takes}
 use Rattle.rules.specs.Rewriting.{finished}
-use Rattle.pieces.specs.Written.{Is, is-operator, is-token, is-open, is-close}
 use Rattle.pieces.specs.declared.Piece.{Piece}
+use Rattle.pieces.specs.declared.Piece.the-variants.{Operator, Token, Open, Close}
 use Rattle.items.specs.Walk.{Passed, ShowsAhead}
-use Rattle.finished.specs.Pieces.{ShowsPlan, closes-block}
-use Rattle.finished.specs.Stirring.{ends-block, stirs, wakes}
+use Rattle.items.proofs.Walking.{passed-ahead, passed-here}
+use Rattle.finished.specs.ShowsPlan.{ShowsPlan}
+use Rattle.finished.specs.Stirring.{blocks-behind, stirs}
 use Rattle.finished.proofs.Stirring.{stirs-unless-finished}
+use Rattle.finished.proofs.Turning.{Like, Turned, close-turned, kept, like, open-turned, operator-turned, token-turned}
 
-pub record FinishedSoFar (text : List ℕ) (at : ℕ) (behind : Bool) : Type 0 where
+pub record FinishedSoFar (text : List ℕ) (at blocks : ℕ) (second : List Bool) (deep : ℕ) : Type 0 where
   pub ahead : ShowsAhead text at
+  pub long : length second ≡ cellLimit
+  pub closes : Closes deep (ahead .come)
+  pub room : deep + length (starts (ahead .come)) ≤ cellLimit
   pub each : (ps : List (PlanPiece ℕ)) → Shows tokenLimit 0 text ps
-      → (qs : List (PlanPiece ℕ)) × Shows tokenLimit at (drop at text) qs × (stirs false ps ≡ stirs behind qs)
+      → (qs : List (PlanPiece ℕ)) × Shows tokenLimit at (drop at text) qs × (stirs 0 [] ps ≡ stirs blocks (kept second deep) qs)
 
-pub finished-first : {text : List ℕ} → ShowsPlan text → FinishedSoFar text 0 false
-finished-first s =
-    record { ahead = record { short = s .short; come = pieces (s .plan); shows = s .shows }; each = λ ps shows. (ps, shows, refl) }
+pub finished-first : {text : List ℕ} {second : List Bool} → length second ≡ cellLimit → ShowsPlan text → FinishedSoFar text 0 0 second 0
+unfolding kept
+finished-first long s =
+    record {
+      ahead = record { short = s .short; come = pieces (s .plan); shows = s .shows };
+      long = long;
+      closes = closes-pieces (s .plan);
+      room = omega (arith, s .fits, cells-pieces (s .plan));
+      each = λ ps shows. (ps, shows, refl);
+    }
 
-ends-told : {text : List ℕ} {k : Piece} {x : PlanPiece ℕ} → Is text k x → ends-block x ≡ closes-block k
-unfolding ends-block
-ends-told is-operator = refl
-ends-told (is-token t) = refl
-ends-told is-open = refl
-ends-told is-close = refl
-
-module _ {text : List ℕ} {at : ℕ} {behind : Bool} (f : FinishedSoFar text at behind) where
+module _ {text : List ℕ} {at blocks : ℕ} {second : List Bool} {deep : ℕ} (f : FinishedSoFar text at blocks second deep) where
   pub finished-end : ((qs : List (PlanPiece ℕ)) → Shows tokenLimit at (drop at text) qs → qs ≡ [])
       → (p : Plan ℕ) → Shows tokenLimit 0 text (pieces p) → true ≡ finished p
   unfolding stirs
   finished-end none p s =
       let (qs, shows, same) = f .each (pieces p) s in
-      sym (not-false (finished p) (sym (stirs-unless-finished p) ∙ same ∙ ap (stirs behind) (none qs shows)))
+      sym (not-false (finished p) (sym (stirs-unless-finished p) ∙ same ∙ ap (stirs blocks (kept second deep)) (none qs shows)))
 
-  module _ (k : Piece) (place rest : ℕ) (passed : (qs : List (PlanPiece ℕ)) → Shows tokenLimit at (drop at text) qs → Passed text at k place rest qs) where
-    here : Passed text at k place rest (f .ahead .come)
-    here = passed (f .ahead .come) (f .ahead .shows)
+  module _ {k : Piece} {place rest : ℕ} (passed : (qs : List (PlanPiece ℕ)) → Shows tokenLimit at (drop at text) qs → Passed text at k place rest qs) where
+    first-like : {qs : List (PlanPiece ℕ)} {y : Piece} → k ≡ y → (p : Passed text at k place rest qs) → Like y (p .first)
+    first-like e p = subst (λ (z : Piece). Like z (p .first)) e (like (p .is))
 
-    pub finished-ahead : ShowsAhead text rest
-    finished-ahead = record { short = f .ahead .short; come = here .later; shows = here .shows }
+    -- the walk goes on behind the piece
+    turn : {y : Piece} {blocks′ : ℕ} {second′ : List Bool} {deep′ : ℕ} → k ≡ y → length second′ ≡ cellLimit
+        → ((ps : List (PlanPiece ℕ)) (x : PlanPiece ℕ) → Like y x → Turned blocks second deep x ps blocks′ second′ deep′)
+        → FinishedSoFar text rest blocks′ second′ deep′
+    turn e long turned =
+        let here = passed-here (f .ahead) passed in
+        let t = turned (here .later) (here .first) (first-like e here) in
+        record {
+          ahead = passed-ahead (f .ahead) here;
+          long = long;
+          closes = t .closes (subst (Closes deep) (here .parts) (f .closes));
+          room = omega (arith, t .room, f .room, ap (λ ps. length (starts ps)) (here .parts));
+          each = λ ps s.
+              let (qs, shows, same) = f .each ps s in
+              let p = passed qs shows in
+              (p .later, p .shows, same ∙ ap (stirs blocks (kept second deep)) (p .parts) ∙ turned (p .later) (p .first) (first-like e p) .same);
+        }
 
-    pub finished-less : length text - rest < length text - at
-    finished-less = omega (arith, here .ahead, here .within)
-
-    -- what was found of this piece
-    module _ (r : Bool) (found : (x : PlanPiece ℕ) (ps : List (PlanPiece ℕ)) → Is text k x → Shows tokenLimit rest (drop rest text) ps
-        → r ≡ (behind && wakes (x ∷ ps))) where
-      onward : (ps : List (PlanPiece ℕ)) → Shows tokenLimit 0 text ps
-          → (qs : List (PlanPiece ℕ)) × Shows tokenLimit rest (drop rest text) qs × (stirs false ps ≡ (r || stirs (closes-block k) qs))
+    module _ {o : PlanOperator} (e : k ≡ Operator o) where
+      -- an operator that takes no more blocks than come right before it is ready
+      pub finished-not : takes o ≤ blocks → (p : Plan ℕ) → Shows tokenLimit 0 text (pieces p) → false ≡ finished p
       unfolding stirs
-      onward ps s =
-          let (qs, shows, same) = f .each ps s in
-          let p = passed qs shows in (
-            p .later,
-            p .shows,
-            same ∙ ap (stirs behind) (p .parts) ∙ ap (_|| stirs (ends-block (p .first)) (p .later)) (sym (found (p .first) (p .later) (p .is) (p .shows)))
-                ∙ ap (λ b. r || stirs b (p .later)) (ends-told (p .is)),
-          )
+      finished-not h p s =
+          let (qs, shows, same) = f .each (pieces p) s in
+          let q = passed qs shows in
+          let (l, is) = first-like e q in
+          let ready : stirs blocks (kept second deep) qs ≡ true =
+          ap (stirs blocks (kept second deep)) (q .parts ∙ ap (_∷ q .later) is) ∙ ap (_|| stirs 0 (kept second deep) (q .later)) (le-leb (takes o) blocks h) in
+          sym (not-true (finished p) (sym (stirs-unless-finished p) ∙ same ∙ ready))
 
-      pub finished-not : r ≡ true → (p : Plan ℕ) → Shows tokenLimit 0 text (pieces p) → false ≡ finished p
-      finished-not e p s =
-          let (qs, shows, same) = onward (pieces p) s in
-          sym (not-true (finished p) (sym (stirs-unless-finished p) ∙ same ∙ ap (_|| stirs (closes-block k) qs) e))
+      pub finished-operator : blocks < takes o → FinishedSoFar text rest 0 second deep
+      finished-operator h = turn e (f .long) (λ ps. operator-turned blocks second deep ps o h)
 
-      pub finished-on : r ≡ false → (b : Bool) → b ≡ closes-block k → FinishedSoFar text rest b
-      finished-on e b is =
-          record {
-            ahead = finished-ahead;
-            each = λ ps s. let (qs, shows, same) = onward ps s in (qs, shows, same ∙ ap (_|| stirs (closes-block k) qs) e ∙ ap (λ c. stirs c qs) (sym is));
-          }
+    pub finished-token : {t : TextToken} → k ≡ Token t → FinishedSoFar text rest 0 second deep
+    finished-token {t} e = turn e (f .long) (λ ps. token-turned blocks second deep ps t)
+
+    module _ (e : k ≡ Open) where
+      -- a block more can be open: it is a cell of the plan
+      pub finished-deep : deep < cellLimit
+      unfolding starts
+      finished-deep =
+          let here = passed-here (f .ahead) passed in
+          let (l, is) = first-like e here in
+          omega (arith, f .room, ap (λ ps. length (starts ps)) (here .parts ∙ ap (_∷ here .later) is))
+
+      pub finished-open : FinishedSoFar text rest 0 (set second deep (ltb 0 blocks)) (deep + 1)
+      finished-open =
+          turn e (length-set second deep (ltb 0 blocks) ∙ f .long) (λ ps. open-turned blocks second deep ps (omega (arith, f .long, finished-deep)))
+
+    module _ (e : k ≡ Close) where
+      -- a plan's `]` ends an open block
+      pub finished-within : (0 < deep) × (deep ≤ cellLimit)
+      finished-within =
+          let here = passed-here (f .ahead) passed in
+          (ends deep (here .later) (subst (Closes deep) (here .parts ∙ ap (_∷ here .later) (first-like e here)) (f .closes)), omega (arith, f .room))
+        where
+          ends : (d : ℕ) (ps : List (PlanPiece ℕ)) → Closes d (END ∷ ps) → 0 < d
+          ends zero ps c = absurd c
+          ends (suc d) ps c = omega arith
+
+      pub finished-close : (b : Bool) → getD second (deep - 1) false ≡ b → FinishedSoFar text rest (blocks-behind b) second (deep - 1)
+      finished-close b is = turn e (f .long) (λ ps. close-turned blocks second deep ps b is (finished-within .0))

@@ -1,4 +1,3 @@
-pub mod BlockSoFar
 pub mod FinishedSoFar
 pub mod Stirring
-pub mod Told
+pub mod Turning

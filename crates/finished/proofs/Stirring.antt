@@ -1,36 +1,28 @@
 -- The pieces of a plan tell whether it is finished: `stirs` finds a ready operator exactly where the order finds a rewrite.
-use Prim.Native.Nat.{ℕ, zero, suc}
+use Prim.Native.Nat.{ℕ}
 use mathlib.Core.Path.{_≡_, refl, ap, ap₂, sym, _∙_}
-use mathlib.Core.Bool.{Bool, true, false, not, _&&_, _||_}
+use mathlib.Core.Bool.{Bool, true, false, not, _&&_, _||_, or-assoc, or-false}
 use mathlib.Core.Option.{Option, none, some}
 use mathlib.Core.List.{List, [], _∷_, _++_, append-assoc, append-nil}
-use lib.Dec.{eqb}
+use lib.Dec.{eqb, leb, ltb}
 use Rattle.plan.specs.declared.Operator.the-variants.{A as op-a, B as op-b, C as op-c, D as op-d}
 use Rattle.rules.specs.Leftmost.{takes}
 use Rattle.plan.specs.Options.{_else_, is-none, under}
 use Rattle.plan.specs.Pieces.{Piece, END, pieces}
 use Rattle.plan.specs.Plan.{Plan, end, operator, token, block}
 use Rattle.rules.specs.Rewriting.{after-two, finished, first-block, inner, next, outer}
-use Rattle.plan.proofs.Tests.{and-false}
-use Rattle.finished.specs.Stirring.{ends-block, first-takes, past-block, stirs, wakes}
+use Rattle.finished.specs.Stirring.{blocks-behind, stirs}
 
--- tests
-
-or-false : (a : Bool) → (a || false) ≡ a
-or-false true = refl
-or-false false = refl
-
-or-assoc : (a b c : Bool) → ((a || b) || c) ≡ (a || (b || c))
-or-assoc true b c = refl
-or-assoc false b c = refl
-
-regroup : (n f o i : Bool) → (n || (f || (o || i))) ≡ ((f || o) || (n || i))
-regroup true true o i = refl
-regroup true false true i = refl
-regroup true false false i = refl
-regroup false true o i = refl
-regroup false false true i = refl
-regroup false false false i = refl
+-- what is ready inside a block comes behind what its sequence has
+regroup : (n t f o i : Bool) → (n || ((t || f) || (o || i))) ≡ (t || ((f || o) || (n || i)))
+regroup true true f o i = refl
+regroup true false true o i = refl
+regroup true false false true i = refl
+regroup true false false false i = refl
+regroup false true f o i = refl
+regroup false false true o i = refl
+regroup false false false true i = refl
+regroup false false false false i = refl
 
 -- whether there is one
 
@@ -48,59 +40,42 @@ some-else none y = refl
 some-else (some a) y = refl
 
 module _ {L : Type 0} where
-  -- a plan's own pieces are passed, whatever blocks are open
-  past-inside : (p : Plan L) (d : ℕ) (ps : List (Piece L)) → past-block d (pieces p ++ ps) ≡ past-block d ps
-  unfolding past-block pieces
-  past-inside end d ps = refl
-  past-inside (operator l o p) d ps = past-inside p d ps
-  past-inside (token l t p) d ps = past-inside p d ps
-  past-inside (block l b p) d ps =
-      ap (past-block (suc d)) (append-assoc (pieces b) (END ∷ pieces p) ps) ∙ past-inside b (suc d) (END ∷ (pieces p ++ ps)) ∙ past-inside p d ps
+  -- an operator of the plan is ready, where so many blocks come right before the plan
+  unfoldable awake : (blocks : ℕ) → Plan L → Bool
+  awake n end = false
+  awake n (operator l o p) = leb (takes o) n || awake 0 p
+  awake n (token l t p) = awake 0 p
+  awake n (block l b p) = awake 0 b || awake (blocks-behind (ltb 0 n)) p
 
-  first-front : (p : Plan L) (ps : List (Piece L)) → first-takes 2 ps ≡ false → first-takes 2 (pieces p ++ ps) ≡ first-takes 2 (pieces p)
-  unfolding first-takes pieces
-  first-front end ps h = h
-  first-front (operator l o p) ps h = refl
-  first-front (token l t p) ps h = refl
-  first-front (block l b p) ps h = refl
+  -- the blocks that come right before what follows the plan
+  unfoldable left-behind : (blocks : ℕ) → Plan L → ℕ
+  left-behind n end = n
+  left-behind n (operator l o p) = left-behind 0 p
+  left-behind n (token l t p) = left-behind 0 p
+  left-behind n (block l b p) = left-behind (blocks-behind (ltb 0 n)) p
 
-  -- an operator of the plan is ready, where a block may come right before it
-  unfoldable awake : (behind : Bool) → Plan L → Bool
-  awake k end = false
-  awake k (operator l o p) = (k && eqb (takes o) 1) || awake false p
-  awake k (token l t p) = awake false p
-  awake k (block l b p) = (k && first-takes 2 (pieces p)) || (awake false b || awake true p)
-
-  -- whether the last item is a block
-  unfoldable last-block : Bool → Plan L → Bool
-  last-block k end = k
-  last-block k (operator l o p) = last-block false p
-  last-block k (token l t p) = last-block false p
-  last-block k (block l b p) = last-block true p
-
-  stirs-plan : (k : Bool) (p : Plan L) (ps : List (Piece L)) → first-takes 2 ps ≡ false
-      → stirs k (pieces p ++ ps) ≡ (awake k p || stirs (last-block k p) ps)
-  unfolding stirs awake last-block pieces wakes ends-block past-block first-takes
-  stirs-plan k end ps h = refl
-  stirs-plan k (operator l o p) ps h =
-      ap ((k && eqb (takes o) 1) ||_) (stirs-plan false p ps h) ∙ sym (or-assoc (k && eqb (takes o) 1) (awake false p) (stirs (last-block false p) ps))
-  stirs-plan k (token l t p) ps h = ap (_|| stirs false (pieces p ++ ps)) (and-false k) ∙ stirs-plan false p ps h
-  stirs-plan k (block l b p) ps h =
-      let rest : List (Piece L) = END ∷ (pieces p ++ ps) in
-      let two : first-takes 2 (past-block zero (pieces b ++ rest)) ≡ first-takes 2 (pieces p) =
-      ap (first-takes 2) (past-inside b zero rest) ∙ first-front p ps h in
-      let inside : stirs false (pieces b ++ rest) ≡ (awake false b || (awake true p || stirs (last-block true p) ps)) =
-      stirs-plan false b rest refl ∙ ap (awake false b ||_) (ap (_|| stirs true (pieces p ++ ps)) (and-false (last-block false b)) ∙ stirs-plan true p ps h) in
-      ap (λ qs. (k && first-takes 2 (past-block zero qs)) || stirs false qs) (append-assoc (pieces b) (END ∷ pieces p) ps)
-      ∙ ap (λ t. (k && t) || stirs false (pieces b ++ rest)) two
-      ∙ ap ((k && first-takes 2 (pieces p)) ||_) inside
-      ∙ ap ((k && first-takes 2 (pieces p)) ||_) (sym (or-assoc (awake false b) (awake true p) (stirs (last-block true p) ps)))
-      ∙ sym (or-assoc (k && first-takes 2 (pieces p)) (awake false b || awake true p) (stirs (last-block true p) ps))
+  stirs-plan : (n : ℕ) (seconds : List Bool) (p : Plan L) (ps : List (Piece L)) → stirs n seconds (pieces p ++ ps) ≡ (awake n p || stirs (left-behind n p) seconds ps)
+  unfolding stirs awake left-behind pieces
+  stirs-plan n seconds end ps = refl
+  stirs-plan n seconds (operator l o p) ps =
+      ap (leb (takes o) n ||_) (stirs-plan 0 seconds p ps) ∙ sym (or-assoc (leb (takes o) n) (awake 0 p) (stirs (left-behind 0 p) seconds ps))
+  stirs-plan n seconds (token l t p) ps = stirs-plan 0 seconds p ps
+  stirs-plan n seconds (block l b p) ps =
+      let more : ℕ = blocks-behind (ltb 0 n) in
+      ap (stirs 0 (ltb 0 n ∷ seconds)) (append-assoc (pieces b) (END ∷ pieces p) ps) ∙ stirs-plan 0 (ltb 0 n ∷ seconds) b (END ∷ (pieces p ++ ps))
+      ∙ ap (awake 0 b ||_) (stirs-plan more seconds p ps) ∙ sym (or-assoc (awake 0 b) (awake more p) (stirs (left-behind more p) seconds ps))
 
   -- the order's own tests
 
-  two-after : (l : L) (B : Plan L) (m : L) (A p : Plan L) → is-some (after-two l B m A p) ≡ first-takes 2 (pieces p)
-  unfolding after-two first-takes pieces is-none
+  -- the first item is an operator that takes two blocks
+  unfoldable two-first : Plan L → Bool
+  two-first end = false
+  two-first (operator l o p) = eqb (takes o) 2
+  two-first (token l t p) = false
+  two-first (block l b p) = false
+
+  two-after : (l : L) (B : Plan L) (m : L) (A p : Plan L) → is-some (after-two l B m A p) ≡ two-first p
+  unfolding after-two two-first is-none
   two-after l B m A end = refl
   two-after l B m A (operator n op-a p) = refl
   two-after l B m A (operator n op-b p) = refl
@@ -109,45 +84,72 @@ module _ {L : Type 0} where
   two-after l B m A (token n t p) = refl
   two-after l B m A (block n C p) = refl
 
-  -- what follows a block begins with an operator that it makes ready, or with a block behind which one is
-  unfoldable fronts : Plan L → Bool
-  fronts end = false
-  fronts (operator l o p) = eqb (takes o) 1
-  fronts (token l t p) = false
-  fronts (block l b p) = first-takes 2 (pieces p)
+  -- an operator is ready by the blocks that come right before the plan: it is the first item, or takes the first item too
+  unfoldable fronts : (blocks : ℕ) → Plan L → Bool
+  fronts n end = false
+  fronts n (operator l o p) = leb (takes o) n
+  fronts n (token l t p) = false
+  fronts n (block l b p) = ltb 0 n && two-first p
 
-  first-fronts : (l : L) (A p : Plan L) → is-some (first-block l A p) ≡ fronts p
+  fronts-none : (p : Plan L) → fronts 0 p ≡ false
+  unfolding fronts
+  fronts-none end = refl
+  fronts-none (operator l op-a p) = refl
+  fronts-none (operator l op-b p) = refl
+  fronts-none (operator l op-c p) = refl
+  fronts-none (operator l op-d p) = refl
+  fronts-none (token l t p) = refl
+  fronts-none (block l b p) = refl
+
+  fronts-one : (l : L) (A p : Plan L) → is-some (first-block l A p) ≡ fronts 1 p
   unfolding first-block fronts is-none
-  first-fronts l A end = refl
-  first-fronts l A (operator n op-a p) = refl
-  first-fronts l A (operator n op-b p) = refl
-  first-fronts l A (operator n op-c p) = refl
-  first-fronts l A (operator n op-d p) = refl
-  first-fronts l A (token n t p) = refl
-  first-fronts l A (block m B p) = two-after l A m B p
+  fronts-one l A end = refl
+  fronts-one l A (operator n op-a p) = refl
+  fronts-one l A (operator n op-b p) = refl
+  fronts-one l A (operator n op-c p) = refl
+  fronts-one l A (operator n op-d p) = refl
+  fronts-one l A (token n t p) = refl
+  fronts-one l A (block m B p) = two-after l A m B p
+
+  fronts-two : (p : Plan L) → fronts 2 p ≡ (two-first p || fronts 1 p)
+  unfolding fronts two-first
+  fronts-two end = refl
+  fronts-two (operator l op-a p) = refl
+  fronts-two (operator l op-b p) = refl
+  fronts-two (operator l op-c p) = refl
+  fronts-two (operator l op-d p) = refl
+  fronts-two (token l t p) = refl
+  fronts-two (block l b p) = refl
+
+  -- behind one block more
+  fronts-more : (some-before : Bool) (p : Plan L) → fronts (blocks-behind some-before) p ≡ ((some-before && two-first p) || fronts 1 p)
+  fronts-more true p = fronts-two p
+  fronts-more false p = refl
 
   past-item : (f : Plan L → Plan L) (p : Plan L) → (is-some (outer p) || is-some (inner p)) ≡ (is-some (under f (outer p)) || is-some (under f (inner p)))
   past-item f p = sym (ap₂ _||_ (some-under f (outer p)) (some-under f (inner p)))
 
-  awake-next : (k : Bool) (p : Plan L) → awake k p ≡ ((k && fronts p) || (is-some (outer p) || is-some (inner p)))
+  awake-next : (n : ℕ) (p : Plan L) → awake n p ≡ (fronts n p || (is-some (outer p) || is-some (inner p)))
   unfolding awake fronts outer inner is-none
-  awake-next k end = sym (or-false (k && false) ∙ and-false k)
-  awake-next k (operator l o p) = ap ((k && eqb (takes o) 1) ||_) (awake-next false p ∙ past-item (operator l o) p)
-  awake-next k (token l t p) =
-      awake-next false p ∙ past-item (token l t) p
-      ∙ ap (_|| (is-some (under (token l t) (outer p)) || is-some (under (token l t) (inner p)))) (sym (and-false k))
-  awake-next k (block l b p) =
-      let own : is-some (outer (block l b p)) ≡ (fronts p || is-some (outer p)) =
-      some-else (first-block l b p) (under (block l b) (outer p)) ∙ ap₂ _||_ (first-fronts l b p) (some-under (block l b) (outer p)) in
+  awake-next n end = refl
+  awake-next n (operator l o p) =
+      ap (leb (takes o) n ||_) (awake-next 0 p ∙ ap (_|| (is-some (outer p) || is-some (inner p))) (fronts-none p) ∙ past-item (operator l o) p)
+  awake-next n (token l t p) =
+      awake-next 0 p ∙ ap (_|| (is-some (outer p) || is-some (inner p))) (fronts-none p) ∙ past-item (token l t) p
+  awake-next n (block l b p) =
+      let k : Bool = ltb 0 n in
+      let own : is-some (outer (block l b p)) ≡ (fronts 1 p || is-some (outer p)) =
+      some-else (first-block l b p) (under (block l b) (outer p)) ∙ ap₂ _||_ (fronts-one l b p) (some-under (block l b) (outer p)) in
       let deep : is-some (inner (block l b p)) ≡ ((is-some (outer b) || is-some (inner b)) || is-some (inner p)) =
       some-else (under (λ B. block l B p) (outer b else inner b)) (under (block l b) (inner p))
       ∙ ap₂ _||_ (some-under (λ B. block l B p) (outer b else inner b) ∙ some-else (outer b) (inner b)) (some-under (block l b) (inner p)) in
-      ap ((k && first-takes 2 (pieces p)) ||_)
-      (ap₂ _||_ (awake-next false b) (awake-next true p)
-      ∙ regroup (is-some (outer b) || is-some (inner b)) (fronts p) (is-some (outer p)) (is-some (inner p)) ∙ sym (ap₂ _||_ own deep))
+      ap₂ _||_ (awake-next 0 b ∙ ap (_|| (is-some (outer b) || is-some (inner b))) (fronts-none b))
+      (awake-next (blocks-behind k) p ∙ ap (_|| (is-some (outer p) || is-some (inner p))) (fronts-more k p))
+      ∙ regroup (is-some (outer b) || is-some (inner b)) (k && two-first p) (fronts 1 p) (is-some (outer p)) (is-some (inner p))
+      ∙ ap ((k && two-first p) ||_) (sym (ap₂ _||_ own deep))
 
-  pub stirs-unless-finished : (p : Plan L) → stirs false (pieces p) ≡ not (finished p)
-  unfolding finished next stirs first-takes
+  pub stirs-unless-finished : (p : Plan L) → stirs 0 [] (pieces p) ≡ not (finished p)
+  unfolding finished next stirs
   stirs-unless-finished p =
-      ap (stirs false) (sym (append-nil (pieces p))) ∙ stirs-plan false p [] refl ∙ or-false (awake false p) ∙ awake-next false p
-      ∙ sym (some-else (outer p) (inner p))
+      ap (stirs 0 []) (sym (append-nil (pieces p))) ∙ stirs-plan 0 [] p [] ∙ or-false (awake 0 p) ∙ awake-next 0 p
+      ∙ ap (_|| (is-some (outer p) || is-some (inner p))) (fronts-none p) ∙ sym (some-else (outer p) (inner p))

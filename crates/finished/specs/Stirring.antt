@@ -1,45 +1,24 @@
--- Whether an operator is ready, told by the pieces of a plan in their order: so no tree and no stack is needed. Behind a block, which
--- ends with `]`, an operator that takes one block is ready; one that takes two is ready behind a block that comes right behind
--- another.
-use Prim.Native.Nat.{ℕ, zero, suc}
-use mathlib.Core.Bool.{Bool, true, false, _&&_, _||_}
+-- Whether an operator is ready, told by the pieces of a plan in their order, in one pass and without a tree. What is kept from piece to
+-- piece is how many blocks come right before, counted up to two, since no operator takes more; and of each open block one bit, whether
+-- it came right behind another, since that is lost sight of until the block ends.
+use Prim.Native.Nat.{ℕ}
+use mathlib.Core.Bool.{Bool, true, false, _||_}
 use mathlib.Core.List.{List, [], _∷_}
-use lib.Dec.{eqb}
+use lib.Dec.{leb, ltb}
 use Rattle.rules.specs.Leftmost.{takes}
 use Rattle.plan.specs.Pieces.{Piece, OP, TOKEN, BEGIN, END}
 
--- the pieces behind a block, where so many more blocks are open in it
-unfoldable pub past-block : {L : Type 0} → ℕ → List (Piece L) → List (Piece L)
-past-block d [] = []
-past-block d (OP l o ∷ ps) = past-block d ps
-past-block d (TOKEN l t ∷ ps) = past-block d ps
-past-block d (BEGIN l ∷ ps) = past-block (suc d) ps
-past-block zero (END ∷ ps) = ps
-past-block (suc d) (END ∷ ps) = past-block d ps
+-- the blocks right before what follows a block, by whether that block came right behind another
+abbrev pub blocks-behind : Bool → ℕ
+blocks-behind true = 2
+blocks-behind false = 1
 
--- the first piece is an operator that takes so many blocks
-unfoldable pub first-takes : {L : Type 0} → ℕ → List (Piece L) → Bool
-first-takes n [] = false
-first-takes n (OP l o ∷ ps) = eqb (takes o) n
-first-takes n (TOKEN l t ∷ ps) = false
-first-takes n (BEGIN l ∷ ps) = false
-first-takes n (END ∷ ps) = false
-
--- behind a block: the first piece is a ready operator, or it begins a block behind which one is
-unfoldable pub wakes : {L : Type 0} → List (Piece L) → Bool
-wakes [] = false
-wakes (OP l o ∷ ps) = eqb (takes o) 1
-wakes (TOKEN l t ∷ ps) = false
-wakes (BEGIN l ∷ ps) = first-takes 2 (past-block zero ps)
-wakes (END ∷ ps) = false
-
-unfoldable pub ends-block : {L : Type 0} → Piece L → Bool
-ends-block (OP l o) = false
-ends-block (TOKEN l t) = false
-ends-block (BEGIN l) = false
-ends-block END = true
-
--- an operator is ready somewhere in the pieces, which may come right behind a block
-unfoldable pub stirs : {L : Type 0} → (behind : Bool) → List (Piece L) → Bool
-stirs behind [] = false
-stirs behind (x ∷ ps) = (behind && wakes (x ∷ ps)) || stirs (ends-block x) ps
+-- an operator is ready somewhere in the pieces, where so many blocks come right before them. The open blocks' bits stand innermost
+-- first; a `]` with no block open is in no plan
+unfoldable pub stirs : {L : Type 0} → (blocks : ℕ) → (seconds : List Bool) → List (Piece L) → Bool
+stirs blocks seconds [] = false
+stirs blocks seconds (OP l o ∷ ps) = leb (takes o) blocks || stirs 0 seconds ps
+stirs blocks seconds (TOKEN l t ∷ ps) = stirs 0 seconds ps
+stirs blocks seconds (BEGIN l ∷ ps) = stirs 0 (ltb 0 blocks ∷ seconds) ps
+stirs blocks [] (END ∷ ps) = false
+stirs blocks (second ∷ seconds) (END ∷ ps) = stirs (blocks-behind second) seconds ps

@@ -9,6 +9,7 @@ use native.Mathlib.Omega.{arith}
 use lib.ListN.{length}
 use Rattle.kinds.specs.Limits.{cellLimit}
 use Rattle.plan.specs.Plan.{Plan}
+use Rattle.kinds.proofs.Tests.{never}
 use Rattle.rules.proofs.Frames.{found-ahead}
 use Rattle.memory.specs.Held.{HeldIn, held-numbers}
 use Rattle.memory.specs.Memory.{start, close, datum, link, block-kind, ports, Linked}
@@ -92,12 +93,9 @@ module _ {text m : List ℕ} {h : Held} {stop port : ℕ} (k : Walking text m h 
       rw e record { lent = k .lent; plan = k .plan; held = k .held; ends = k .ends; way = here .way; standing = standing }
 
   module _ (opened : Bool) (tells : opened ≡ opens (held-numbers m h) port) where
-    never : opens (held-numbers m h) port ≡ true → opens (held-numbers m h) port ≡ false → ⊥
-    never does shut = let z : _≡_ {A = ℕ} 0 1 = cc in omega arith
-
     opening : opened ≡ true → Standing (held-numbers m h) (h .outer .0) (k .plan) port → Opening (held-numbers m h) (h .outer .0) (k .plan) port
     opening does (at-opening o e other) = o
-    opening does (passed p e other) = absurd (never (sym tells ∙ does) e)
+    opening does (passed p e other) = never cc
     opening does (at-end e last) = absurd (more (last ∙ sym (k .ends)))
 
     -- a port that opens no sequence is passed over
@@ -105,34 +103,35 @@ module _ {text m : List ℕ} {h : Held} {stop port : ℕ} (k : Walking text m h 
     hunt-on shut next e = on (k .standing)
       where
         on : Standing (held-numbers m h) (h .outer .0) (k .plan) port → Walking text m h stop next
-        on (at-opening o does other) = absurd (never does (sym tells ∙ shut))
+        on (at-opening o does other) = never cc
         on (passed p e′ other) = next-walking next e (stand-passing (k .held) outermost p)
         on (at-end e′ last) = absurd (more (last ∙ sym (k .ends)))
 
-    module _ (does : opened ≡ true) where
+    -- the cell s, whose inside opens there
+    module _ (does : opened ≡ true) {s : ℕ} (at-cell : s ≡ port / 2) where
       o : Opening (held-numbers m h) (h .outer .0) (k .plan) port
       o = opening does (k .standing)
 
-      cell : cell-of (h .outer .0) (o .frame) ≡ port / 2
+      cell : cell-of (h .outer .0) (o .frame) ≡ s
       cell = let at = o .at in omega arith
 
-      sequence : SequenceAt text (h .outer .0) (held-numbers m h) (port / 2) (o .q)
+      sequence : SequenceAt text (h .outer .0) (held-numbers m h) s (o .q)
       sequence = rw cell at (inside-plug (o .frame) (o .q) (subst (HeldIn text m h) (o .ahead .there) (k .held)))
 
-      pub hunt-scannable : Scannable text m h (port / 2)
+      pub hunt-scannable : Scannable text m h s
       hunt-scannable = record { lent = k .lent; sequence = o .q; there = sequence }
 
-      module _ (r : Hunted) (scanned : (q : Plan ℕ) → SequenceAt text (h .outer .0) (held-numbers m h) (port / 2) q → Scanned r (port / 2) q) where
+      module _ (r : Hunted) (scanned : (q : Plan ℕ) → SequenceAt text (h .outer .0) (held-numbers m h) s q → Scanned r s q) where
         pub hunt-found : (spot : Spot) → r ≡ Ready spot → (t : Plan ℕ) → HeldIn text m h t → Finds (Ready spot) (h .outer .0) t
         hunt-found spot e t held =
-            let found : Scanned (Ready spot) (port / 2) (o .q) = subst (λ a. Scanned a (port / 2) (o .q)) e (scanned (o .q) sequence) in
+            let found : Scanned (Ready spot) s (o .q) = subst (λ a. Scanned a s (o .q)) e (scanned (o .q) sequence) in
             subst (Finds (Ready spot) (h .outer .0)) (one-held (k .held) held)
             (o .frame, o .q, found .0, o .ahead .there, rw cell (found .1), found-ahead (o .ahead) (found .2))
 
         pub hunt-past : r ≡ Nothing → (next : ℕ) → next ≡ link (held-numbers m h) port → Walking text m h stop next
         hunt-past e next on =
             next-walking next on
-            (stand-passing (k .held) outermost (pass-opening o (subst (λ a. Scanned a (port / 2) (o .q)) e (scanned (o .q) sequence))))
+            (stand-passing (k .held) outermost (pass-opening o (subst (λ a. Scanned a s (o .q)) e (scanned (o .q) sequence))))
 
 -- at the end the whole plan is passed, so nothing is ready
 pub hunt-none : {text m : List ℕ} {h : Held} {stop port : ℕ} → Walking text m h stop port → port ≡ stop → (t : Plan ℕ) → HeldIn text m h t

@@ -1,6 +1,6 @@
 -- The walk of `scan` over the items of a sequence. What is ahead are the ports of the items that are not yet passed; a block is
 -- passed by its close, so the walk jumps over the ports of its inside.
-use Prim.Native.Nat.{ℕ, _+_, _*_, _≤_, _<_}
+use Prim.Native.Nat.{ℕ, _*_, _/_, _≤_, _<_}
 use mathlib.Core.Path.{_≡_, refl, ap, sym, _∙_, subst, subst₂}
 use mathlib.Core.Logic.{_≢_}
 use mathlib.Core.List.{List, [], _∷_}
@@ -20,7 +20,7 @@ use Rattle.memory.specs.declared.Kind.the-variants.{Operator as OPERATOR, Token
 use Rattle.memory.proofs.Whole.{number-whole}
 use Rattle.memory.proofs.Numbered.{kind-told}
 use Rattle.blocks.proofs.Ways.{ahead, way-ahead, Way}
-use Rattle.hunt.specs.Hunting.{SequenceAt, Scannable, Scanned, closes, ready-at}
+use Rattle.hunt.specs.Hunting.{SequenceAt, Scannable, Scanned, last-port, ready-at}
 use Rattle.hunt.specs.declared.Spot.{Spot}
 use Rattle.hunt.specs.declared.Hunted.{Hunted}
 use Rattle.hunt.specs.declared.Hunted.the-variants.{Nothing, Ready}
@@ -68,8 +68,8 @@ module _ {text m : List ℕ} {h : Held} {s : ℕ} (can : Scannable text m h s) w
 -- what the test of an item gives: the walk goes on behind it; or the sequence's leftmost ready operator is there
 abbrev pub AfterTest : (text m : List ℕ) → (n first stop last second at : ℕ) → Kind → Hunted → Type 0
 AfterTest text m n first stop last second at kind Nothing =
-    (count at′ : ℕ) → count ≡ closes kind → at′ ≡ link (whole n m first) (at + count)
-    → Scanning text m n first stop (at + count) last second at′
+    (last′ at′ : ℕ) → last′ ≡ last-port kind at → at′ ≡ link (whole n m first) last′
+    → Scanning text m n first stop last′ last second at′
     × (length (ahead (whole n m first) n stop at′) < length (ahead (whole n m first) n stop at))
 AfterTest text m n first stop last second at kind (Ready spot) =
     (s : ℕ) × (q : Plan ℕ) × (stop ≡ close s) × SequenceAt text n (whole n m first) s q × Scanned (Ready spot) s q
@@ -99,13 +99,16 @@ module _ {text m : List ℕ} {n first stop last second third at : ℕ} (h : Scan
   pub scan-here : 2 * at < length m
   scan-here = omega (arith, scan-low, h .lent .room)
 
-  next-low : (kind : Kind) → at + closes kind ≤ start n
+  pub scan-cell : at / 2 ≤ cellLimit
+  scan-cell = omega (arith, scan-low, h .lent .few)
+
+  next-low : (kind : Kind) → last-port kind at ≤ start n
   next-low (OPERATOR o) = omega (arith, scan-low)
   next-low TOKEN = omega (arith, scan-low)
   next-low BLOCK = omega (arith, scan-low)
 
-  pub scan-next : (kind : Kind) (count : ℕ) → count ≡ closes kind → at + count ≤ start n
-  scan-next kind count e = rw e (next-low kind)
+  pub scan-next : (kind : Kind) (last′ : ℕ) → last′ ≡ last-port kind at → last′ ≤ start n
+  scan-next kind last′ e = rw e (next-low kind)
 
   -- behind an item that ends at the port, with the items p left
   onward : (y p : Plan ℕ) (port : ℕ) → Way w n stop at (ports y) → Way w n stop (link w port) (ports p) → length (ports p) < length (ports y)
@@ -130,11 +133,11 @@ module _ {text m : List ℕ} {n first stop last second third at : ℕ} (h : Scan
 
   -- behind an operator or a token
   pass-atom : (c : ℕ) (y p : Plan ℕ) → ports y ≡ start c ∷ ports p → Way w n stop at (ports y) → Says text w p → (v : Window (h .sequence) p)
-      → Seen (h .cell) v (start c) last second → (count at′ : ℕ) → count ≡ 0 → at′ ≡ link w (at + count)
-      → Scanning text m n first stop (at + count) last second at′ × (length (ahead w n stop at′) < length (ahead w n stop at))
-  pass-atom c y p e way says window seen count at′ l a =
+      → Seen (h .cell) v (start c) last second → (last′ at′ : ℕ) → last′ ≡ at → at′ ≡ link w last′
+      → Scanning text m n first stop last′ last second at′ × (length (ahead w n stop at′) < length (ahead w n stop at))
+  pass-atom c y p e way says window seen last′ at′ l a =
       let from : Way w n stop at (start c ∷ ports p) = subst (Way w n stop at) e way in
-      onward y p (start c) way (way-skip [] (start c) (ports p) from) (omega (arith, ap length e)) says window seen (at + count) at′ (omega (arith, from .leads .0)) a
+      onward y p (start c) way (way-skip [] (start c) (ports p) from) (omega (arith, ap length e)) says window seen last′ at′ (l ∙ from .leads .0) a
 
   abbrev Then : Kind → Hunted → Type 0
   Then kind r = AfterTest text m n first stop last second at kind r
@@ -165,9 +168,9 @@ module _ {text m : List ℕ} {n first stop last second third at : ℕ} (h : Scan
     item (block c b p) way says window seen =
         let here = way .leads .0 in
         rw (told c _ here (says .0))
-        (λ count at′ e a. onward (block c b p) p (close c) way (way-skip (start c ∷ ports b) (close c) (ports p) way)
+        (λ last′ at′ e a. onward (block c b p) p (close c) way (way-skip (start c ∷ ports b) (close c) (ports p) way)
         (omega (arith, length-append (ports b) (close c ∷ ports p))) (says .2) (window-block window) (seen-block (h .cell) last second third window seen)
-        (at + count) at′ (omega arith) a)
+        last′ at′ (omega arith) a)
 
     scan-item : Then kind (ready-at kind at last second third)
     scan-item = item (h .y) (h .way) (h .says) (h .window) (h .seen)

@@ -9,7 +9,6 @@ use mathlib.Core.List.{List, [], _∷_, _++_, append-assoc}
 use mathlib.Core.Option.{none}
 use native.Mathlib.Omega.{arith}
 use borrow.Author.Tests.{eq-eqb, ne-eqb}
-use lib.Dec.{eqb}
 use Rattle.rules.specs.Frames.{Frame, top, within, plug, Ahead, Inside}
 use Rattle.plan.specs.Options.{under}
 use Rattle.plan.specs.Plan.{Plan, end, operator, token, block, _then_, labels}
@@ -20,7 +19,7 @@ use Rattle.memory.proofs.Lists.{below-split}
 use Rattle.memory.specs.Numbered.{kind-of}
 use Rattle.memory.specs.declared.Kind.the-variants.{Operator as OPERATOR}
 use Rattle.memory.proofs.Numbered.{kind-told}
-use Rattle.hunt.specs.Hunting.{cell-of, closes, opens}
+use Rattle.hunt.specs.Hunting.{cell-of, is-block, opens}
 use Rattle.hunt.proofs.Frames.{right, says-split, says-around, block-low}
 
 -- the ports from those of the items z on, where the items z end a sequence in the frame
@@ -78,13 +77,13 @@ pub data Standing (w : List ℕ) (n : ℕ) (t : Plan ℕ) (port : ℕ) : Type 0 
   passed : Passing w n t (link w port) → opens w port ≡ false → port ≢ close n → Standing w n t port
   at-end : next t ≡ none → port ≡ close n → Standing w n t port
 
-start-opens : (w : List ℕ) (c number : ℕ) → datum w (start c) ≡ number → opens w (start c) ≡ eqb (closes (kind-of number)) 1
+start-opens : (w : List ℕ) (c number : ℕ) → datum w (start c) ≡ number → opens w (start c) ≡ is-block (kind-of number)
 unfolding opens
-start-opens w c number h = simp (eq-eqb (start c % 2) 0 (omega arith), h)
+start-opens w c number h = simp (ne-eqb (start c % 2) 1 (λ e. omega arith), h)
 
 close-shut : (w : List ℕ) (c : ℕ) → opens w (close c) ≡ false
 unfolding opens
-close-shut w c = simp (ne-eqb (close c % 2) 0 (λ e. omega arith))
+close-shut w c = simp (eq-eqb (close c % 2) 1 (omega arith))
 
 module _ {text : List ℕ} {n : ℕ} {w : List ℕ} {free : ℕ} {t : Plan ℕ}
     (held : Holds text n w free t) (outermost : datum w (start n) ≡ block-kind) where
@@ -142,7 +141,7 @@ module _ {text : List ℕ} {n : ℕ} {w : List ℕ} {free : ℕ} {t : Plan ℕ}
   unfolding ports right inner _then_
   ahead-item f d end port inside at chain = leave f d port inside at chain
   ahead-item f d (operator c o p) port inside at chain =
-      pass-atom f d c (operator c o end) p refl refl (start-opens w c _ (says-ahead f d inside .0) ∙ ap (λ k. eqb (closes k) 1) (kind-told (OPERATOR o))) inside at chain
+      pass-atom f d c (operator c o end) p refl refl (start-opens w c _ (says-ahead f d inside .0) ∙ ap is-block (kind-told (OPERATOR o))) inside at chain
   ahead-item f d (token c v p) port inside at chain =
       pass-atom f d c (token c v end) p refl refl (start-opens w c _ (says-ahead f d inside .0)) inside at chain
   ahead-item f d (block c b p) port inside at chain =

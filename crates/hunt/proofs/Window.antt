@@ -2,13 +2,14 @@
 -- operator by those ports is the rule's own.
 use Prim.Native.Nat.{ℕ, _/_, _%_}
 use mathlib.Core.Path.{_≡_, refl, ap, sym, _∙_, subst}
+use mathlib.Core.Logic.{_≢_}
 use mathlib.Core.List.{List, [], _∷_, _++_}
-use mathlib.Core.Bool.{true, false}
 use mathlib.Core.Option.{none}
 use native.Mathlib.Omega.{arith}
 use Rattle.plan.specs.Plan.{Plan, end, operator, token, block, _then_}
 use Rattle.plan.specs.declared.Operator.{Operator}
 use Rattle.plan.specs.declared.Operator.the-variants.{A as op-a, B as op-b, C as op-c, D as op-d}
+use Rattle.rules.specs.Leftmost.{takes}
 use Rattle.rules.specs.Rewriting.{after-two, first-block}
 use Rattle.rules.proofs.Windows.{Front, Window, no-block, one-block, two-blocks, Ready as At, ready}
 use Rattle.rules.proofs.Windows.{past, past-operator, past-token, past-block, window-block}
@@ -16,7 +17,7 @@ use Rattle.memory.specs.Memory.{start, close, ports, last-of}
 use Rattle.memory.specs.declared.Kind.the-variants.{Operator as OPERATOR}
 use Rattle.memory.proofs.Lists.{last-append}
 use Rattle.memory.proofs.Ports.{ports-then}
-use Rattle.hunt.specs.Hunting.{RuleAt, Scanned, Stands, port-behind, ready-at, spot-at, takes-two}
+use Rattle.hunt.specs.Hunting.{RuleAt, Scanned, Stands, port-behind, ready-at, spot-at}
 use Rattle.hunt.specs.declared.Spot.{Spot}
 use Rattle.hunt.specs.declared.Hunted.{Hunted}
 use Rattle.hunt.specs.declared.Hunted.the-variants.{Nothing, Ready}
@@ -77,25 +78,25 @@ module _ (s : ℕ) (q : Plan ℕ) (last second third c : ℕ) (p : Plan ℕ) whe
         subst Answer e (h .result, record { front = X; behind = p; before = at; rule = rw (older, newer, self) (h .rule) }, h .leftmost)
 
     -- the operators a and b are ready behind two blocks and not behind one
-    two-wanted : takes-two o ≡ true → ((m : ℕ) (A : Plan ℕ) → first-block m A (operator c o p) ≡ none)
+    two-wanted : takes o ≡ 2 → ((m : ℕ) (A : Plan ℕ) → first-block m A (operator c o p) ≡ none)
         → ((l : ℕ) (B : Plan ℕ) (m : ℕ) (A : Plan ℕ) (h : Front q (block l B (block m A (operator c o p)))) → At o l m c (h .front) p q)
         → (w : Window q (operator c o p)) → Seen s w last second third → Answer test
     two-wanted t one two (no-block h) (a, e) = not-ready (none-there o refl (start c) last second third (omega arith)) h
     two-wanted t one two (one-block m A h) (e, a, d) =
-        not-ready (second-missing o refl (start c) last second third (omega arith) refl t (omega arith)) (past-block h (one m A))
+        not-ready (second-missing o refl (start c) last second third (λ z. omega arith) t (omega arith)) (past-block h (one m A))
     two-wanted t one two (two-blocks l B m A h) (e, d, a) =
-        is-ready (two-there o refl (start c) last second third (omega arith) refl t (omega arith)) a (omega arith) (omega arith) (two l B m A h)
+        is-ready (two-there o refl (start c) last second third (λ z. omega arith) t (λ z. omega arith)) a (omega arith) (omega arith) (two l B m A h)
 
     -- the operators c and d are ready behind one block, whatever stands before it
-    one-wanted : takes-two o ≡ false → ((l : ℕ) (B : Plan ℕ) (m : ℕ) (A : Plan ℕ) → after-two l B m A (operator c o p) ≡ none)
+    one-wanted : takes o ≢ 2 → ((l : ℕ) (B : Plan ℕ) (m : ℕ) (A : Plan ℕ) → after-two l B m A (operator c o p) ≡ none)
         → ((l m : ℕ) (A : Plan ℕ) (h : Front q (block m A (operator c o p))) → At o l m c (h .front) p q)
         → (w : Window q (operator c o p)) → Seen s w last second third → Answer test
     unfolding first-block past-block past
     one-wanted t two one (no-block h) (a, e) = not-ready (none-there o refl (start c) last second third (omega arith)) h
     one-wanted t two one (one-block m A h) (e, a, d) =
-        is-ready (one-there o refl (start c) last second third (omega arith) refl t) a (omega arith) refl (one _ m A h)
+        is-ready (one-there o refl (start c) last second third (λ z. omega arith) t) a (omega arith) refl (one _ m A h)
     one-wanted t two one (two-blocks l B m A h) (e, d, a) =
-        is-ready (one-there o refl (start c) last second third (omega arith) refl t) (d ∙ sym (ends-in-block (start s) (h .front) l B)) (omega arith) refl
+        is-ready (one-there o refl (start c) last second third (λ z. omega arith) t) (d ∙ sym (ends-in-block (start s) (h .front) l B)) (omega arith) refl
         (one _ m A (past-block h (two l B m A)))
 
   pub tested-operator : (o : Operator) (w : Window q (operator c o p)) → Seen s w last second third
@@ -103,8 +104,8 @@ module _ (s : ℕ) (q : Plan ℕ) (last second third c : ℕ) (p : Plan ℕ) whe
   unfolding first-block after-two _then_
   tested-operator op-a w k = two-wanted op-a refl (λ m A. refl) (λ l B m A h. ready op-a B A h) w k
   tested-operator op-b w k = two-wanted op-b refl (λ m A. refl) (λ l B m A h. ready op-b B A h) w k
-  tested-operator op-c w k = one-wanted op-c refl (λ l B m A. refl) (λ l m A h. ready op-c end A h) w k
-  tested-operator op-d w k = one-wanted op-d refl (λ l B m A. refl) (λ l m A h. ready op-d end A h) w k
+  tested-operator op-c w k = one-wanted op-c (λ z. omega arith) (λ l B m A. refl) (λ l m A h. ready op-c end A h) w k
+  tested-operator op-d w k = one-wanted op-d (λ z. omega arith) (λ l B m A. refl) (λ l m A h. ready op-d end A h) w k
 
 -- the rule at a spot, once it is known which operator stands there
 pub stands-rule : {spot : Spot} {s : ℕ} {q q′ : Plan ℕ} (k : Stands spot s q q′) {o : Operator} → spot .which ≡ o

@@ -8,7 +8,7 @@ use lib.Dec.{eqb}
 use Rattle.rules.specs.Frames.{Frame, top, within, plug, Ahead, Rule}
 use Rattle.plan.specs.Plan.{Plan, labels}
 use Rattle.plan.specs.declared.Operator.{Operator}
-use Rattle.plan.specs.declared.Operator.the-variants.{A as op-a, B as op-b, C as op-c, D as op-d}
+use Rattle.rules.specs.Leftmost.{takes}
 use Rattle.rules.specs.Rewriting.{outer, next}
 use Rattle.memory.specs.Held.{HeldIn, held-numbers}
 use Rattle.memory.specs.Memory.{start, close, datum, ports, Linked, Says, Below, Distinct, last-of}
@@ -80,15 +80,18 @@ pub record Huntable (text m : List ℕ) (h : Held) (from : ℕ) : Type 0 where
   pub held : HeldIn text m h plan
   pub awaits : Awaits (h .outer .0) plan from
 
--- how many ports an item has behind its start: a block has its close
-abbrev pub closes : Kind → ℕ
-closes (OPERATOR o) = 0
-closes TOKEN = 0
-closes BLOCK = 1
+abbrev pub is-block : Kind → Bool
+is-block (OPERATOR o) = false
+is-block TOKEN = false
+is-block BLOCK = true
 
--- a block opens at the port: at the outermost start too
+-- the last port of the item that starts at a port, which links to what comes behind the item: a block's is its close
+abbrev pub last-port : Kind → (at : ℕ) → ℕ
+last-port kind at = cond (is-block kind) (close (at / 2)) at
+
+-- a block opens at the port, which is no close: at the outermost start too
 unfoldable pub opens : List ℕ → (port : ℕ) → Bool
-opens w port = cond (eqb (port % 2) 0) (eqb (closes (kind-of (datum w port))) 1) false
+opens w port = cond (eqb (port % 2) 1) false (is-block (kind-of (datum w port)))
 
 -- the operator at the port `at`, behind blocks that close at the last two ports
 abbrev pub spot-at : Operator → (at last second before : ℕ) → Spot
@@ -100,18 +103,12 @@ spot-at o at last second before = record {
   operator = record { 0 = at / 2 };
 }
 
-abbrev pub takes-two : Operator → Bool
-takes-two op-a = true
-takes-two op-b = true
-takes-two op-c = false
-takes-two op-d = false
-
 -- Whether the item at the port `at` is a ready operator, by the three ports before the items before it: a port that is odd is a
 -- block's close, so the item before is a block.
 abbrev pub ready-at : Kind → (at last second third : ℕ) → Hunted
 ready-at (OPERATOR o) at last second third =
     cond (eqb (last % 2) 1)
-    (cond (takes-two o) (cond (eqb (second % 2) 1) (Ready (spot-at o at last second third)) Nothing) (Ready (spot-at o at last second second)))
+    (cond (eqb (takes o) 2) (cond (eqb (second % 2) 1) (Ready (spot-at o at last second third)) Nothing) (Ready (spot-at o at last second second)))
     Nothing
 ready-at TOKEN at last second third = Nothing
 ready-at BLOCK at last second third = Nothing

@@ -2,12 +2,13 @@
 // come, in each for its leftmost ready operator: so one loop goes along the chain over the ports where a block opens, and one
 // scan goes over a sequence's own items, past the insides of its blocks by their closes. No recursion and no stack.
 ghost use mathlib.Core.Path.{_≡_};
-ghost use Prim.Native.Nat.{ℕ, _≤_};
+ghost use Prim.Native.Nat.{ℕ, _/_, _≤_};
+ghost use Rattle.kinds.specs.Limits.{cellLimit};
 ghost use Rattle.plan.specs.Plan.{Plan};
 ghost use Rattle.memory.specs.Held.{HeldIn, held-numbers};
 ghost use Rattle.memory.specs.Memory.{start, whole};
 ghost use Rattle.memory.specs.Model.{Lent};
-ghost use Rattle.hunt.specs.Hunting.{Finds, Huntable, Scannable, Scanned, SequenceAt, closes, opens, ready-at, takes-two};
+ghost use Rattle.hunt.specs.Hunting.{Finds, Huntable, Scannable, Scanned, SequenceAt, is-block, last-port, opens, ready-at};
 use kinds::Cell;
 use memory::Held;
 use memory::Kind;
@@ -15,6 +16,7 @@ use memory::Port;
 use memory::kind_at;
 use memory::link_of;
 use plan::Operator;
+use rules::takes;
 
 // A ready operator: which one it is, the port that links to the first of its blocks, its blocks and itself. The operators c and
 // d have the newer block alone.
@@ -31,35 +33,22 @@ pub enum Hunted {
     Ready(Spot),
 }
 
-// The operators a and b take two blocks, c and d one.
-fn takes_two(which: Operator) -> bool
-    ensures { λ r. ⌜ r ≡ takes-two which ⌝ }
-{
-    match which {
-        Operator::A => true,
-        Operator::B => true,
-        Operator::C => false,
-        Operator::D => false,
-    }
-}
-
-// Whether the item at a port is a ready operator. An odd port is a block's close: so the last two ports tell whether the items
-// before are blocks.
+// Whether the item at a port is a ready operator. The last ports of the items before it tell whether those are blocks.
 fn ready_at(kind: Kind, at: Port, last: Port, second: Port, third: Port) -> Hunted
     ensures { λ r. ⌜ r ≡ ready-at kind (at .0) (last .0) (second .0) (third .0) ⌝ }
 {
-    let newer = Cell(last.0 / 2);
-    let older = Cell(second.0 / 2);
-    let operator = Cell(at.0 / 2);
+    let newer = last.cell();
+    let older = second.cell();
+    let operator = at.cell();
     match kind {
         Kind::Token => Hunted::Nothing,
         Kind::Block => Hunted::Nothing,
         Kind::Operator(which) => {
-            if last.0 % 2 != 1 {
+            if !last.closes() {
                 return Hunted::Nothing;
             }
-            if takes_two(which) {
-                if second.0 % 2 != 1 {
+            if takes(which) == 2 {
+                if !second.closes() {
                     return Hunted::Nothing;
                 }
                 return Hunted::Ready(Spot {
@@ -81,15 +70,25 @@ fn ready_at(kind: Kind, at: Port, last: Port, second: Port, third: Port) -> Hunt
     }
 }
 
-// How many ports an item has behind its start: a block has its close.
-fn closes(kind: Kind) -> u32
-    ensures { λ r. ⌜ r ≡ closes kind ⌝ }
+fn is_block(kind: Kind) -> bool
+    ensures { λ r. ⌜ r ≡ is-block kind ⌝ }
 {
     match kind {
-        Kind::Operator(_) => 0,
-        Kind::Token => 0,
-        Kind::Block => 1,
+        Kind::Operator(_) => false,
+        Kind::Token => false,
+        Kind::Block => true,
     }
+}
+
+// The last port of the item that starts at a port, which links to what comes behind the item: a block's is its close.
+fn last_port(kind: Kind, at: Port) -> Port
+    requires { ⌜ at .0 / 2 ≤ cellLimit ⌝ }
+    ensures { λ r. ⌜ r .0 ≡ last-port kind (at .0) ⌝ }
+{
+    if is_block(kind) {
+        return Port::close(at.cell());
+    }
+    at
 }
 
 // The leftmost ready operator of the sequence inside a cell.
@@ -112,7 +111,7 @@ pub fn scan(text: &[u8], memory: &[u32], held: Held, sequence: Cell) -> Hunted
         }
         third = second;
         second = last;
-        last = Port(at.0 + closes(kind));
+        last = last_port(kind, at);
         at = link_of(memory, outer, first, last);
     }
     Hunted::Nothing
@@ -123,13 +122,14 @@ fn opens(memory: &[u32], outer: Cell, first: Port, port: Port) -> bool
     requires { ⌜ Lent (outer .0) (now memory) × (port .0 ≤ start (outer .0)) ⌝ }
     ensures { λ r. ⌜ r ≡ opens (whole (outer .0) (now (memory .entry)) (first .0)) (port .0) ⌝ }
 {
-    if port.0 % 2 == 1 {
+    if port.closes() {
         return false;
     }
-    if port.0 == 2 * outer.0 {
+    let outermost = Port::start(outer);
+    if port.0 == outermost.0 {
         return true;
     }
-    closes(kind_at(memory, port)) == 1
+    is_block(kind_at(memory, port))
 }
 
 // The next ready operator of the plan, from the sequence inside a cell on: nothing before it is ready.
@@ -143,7 +143,7 @@ pub fn hunt(text: &[u8], memory: &[u32], held: Held, from: Cell) -> Hunted
     let mut port = Port::start(from);
     while port.0 != end.0 {
         if opens(memory, outer, first, port) {
-            match scan(text, memory, held, Cell(port.0 / 2)) {
+            match scan(text, memory, held, port.cell()) {
                 Hunted::Ready(spot) => return Hunted::Ready(spot),
                 Hunted::Nothing => {}
             }

@@ -8,12 +8,12 @@ use native.Mathlib.Omega.{arith}
 use native.Mathlib.Numerals.{add-one}
 use lib.ListN.{length, getD, drop, length-append, drop-of-length-le}
 use lib.Seq.{drop-at, drop-cons, drop-drop}
-use Rattle.kinds.specs.Limits.{textLimit, tokenLimit}
+use Rattle.kinds.specs.Limits.{tokenLimit}
 use Rattle.plan.specs.Plan.{close-brace, open-brace}
 use Rattle.plan.specs.Pieces.{Found, Piece as PlanPiece, Shows, nothing, a-mark, an-operator, a-token, opens, closes}
 use Rattle.plan.specs.Reading.{Mark, blank, an-annotation, class, mark}
 use Rattle.plan.proofs.Classes.{class-brace, class-byte, clash}
-use Rattle.plan.proofs.Tests.{false-is-not-true}
+use Rattle.kinds.proofs.Tests.{false-is-not-true}
 use Rattle.plan.proofs.Tokens.{annotation-of}
 use Rattle.items.specs.Walk.{MarkAt, MarkFrom, PieceFrom, ShowsAhead, TokenFrom, Walked}
 use Rattle.items.specs.declared.NextPiece.{NextPiece}
@@ -65,14 +65,16 @@ marked (closes c s) is = false-is-not-true (rw c at is)
 
 -- what the walk knows where it stands, behind the marks that it passed
 pub record WalkSoFar (text : List ℕ) (from at : ℕ) : Type 0 where
-  pub short : length text ≤ textLimit
+  pub began : ShowsAhead text from
   pub low : from ≤ at
-  pub come : List (PlanPiece ℕ)
-  pub shows : Shows tokenLimit at (drop at text) come
   pub still : (ps : List (PlanPiece ℕ)) → Shows tokenLimit from (drop from text) ps → Shows tokenLimit at (drop at text) ps
 
 pub passing-first : {text : List ℕ} {from : ℕ} → ShowsAhead text from → WalkSoFar text from from
-passing-first a = record { short = a .short; low = omega arith; come = a .come; shows = a .shows; still = λ ps s. s }
+passing-first a = record { began = a; low = omega arith; still = λ ps s. s }
+
+-- the pieces that were ahead where it began
+ahead : {text : List ℕ} {from at : ℕ} → WalkSoFar text from at → ShowsAhead text at
+ahead p = let a = p .began in record { short = a .short; come = a .come; shows = p .still (a .come) (a .shows) }
 
 -- the byte at a place, and those behind it
 pub byte-first : (text : List ℕ) (at : ℕ) → at < length text → drop at text ≡ getD text at 0 ∷ drop (at + 1) text
@@ -88,7 +90,7 @@ module _ {text : List ℕ} {from at : ℕ} (p : WalkSoFar text from at) (inside 
     stands k = record { rest = k .rest; splits = k .splits; is = k .is }
 
     pub mark-from : MarkFrom text at
-    mark-from = let k = here (p .shows) in record { short = p .short; inside = inside; m = k .m; found = stands k }
+    mark-from = let k = here (ahead p .shows) in record { short = p .began .short; inside = inside; m = k .m; found = stands k }
 
     module _ (fin : ℕ) (ends : (m : List ℕ) → MarkAt text at m → fin ≡ at + suc (length m)) where
       behind : {ps : List (PlanPiece ℕ)} → Shows tokenLimit at (drop at text) ps → Shows tokenLimit fin (drop fin text) ps
@@ -102,17 +104,10 @@ module _ {text : List ℕ} {from at : ℕ} (p : WalkSoFar text from at) (inside 
           rw (later, there) (k .shows)
 
       pub mark-less : length text - fin < length text - at
-      mark-less = let k = here (p .shows) in omega (arith, ends (k .m) (stands k))
+      mark-less = let k = here (ahead p .shows) in omega (arith, ends (k .m) (stands k))
 
       pub mark-passed : WalkSoFar text from fin
-      mark-passed =
-          record {
-            short = p .short;
-            low = omega (arith, p .low, mark-less);
-            come = p .come;
-            shows = behind (p .shows);
-            still = λ ps s. behind (p .still ps s);
-          }
+      mark-passed = record { began = p .began; low = omega (arith, p .low, mark-less); still = λ ps s. behind (p .still ps s) }
 
 -- the piece behind the marks is the walk's
 later : (text : List ℕ) (from at : ℕ) → from ≤ at → (r : NextPiece) (ps : List (PlanPiece ℕ)) → Walked text at r ps → Walked text from r ps
@@ -132,8 +127,7 @@ later text from at low (AtPiece k place rest) ps w =
 
 pub piece-from : {text : List ℕ} {from at : ℕ} → WalkSoFar text from at → at < length text → {s : Bool} → s ≡ mark (class (getD text at 0)) (drop (at + 1) text)
     → s ≡ false → PieceFrom text at
-piece-from p inside e h =
-    record { ahead = record { short = p .short; come = p .come; shows = p .shows }; inside = inside; no-mark = sym e ∙ h }
+piece-from p inside e h = record { ahead = ahead p; inside = inside; no-mark = sym e ∙ h }
 
 pub pass-piece : {text : List ℕ} {from at : ℕ} → WalkSoFar text from at → (r : NextPiece)
     → ((ps : List (PlanPiece ℕ)) → Shows tokenLimit at (drop at text) ps → Walked text at r ps)

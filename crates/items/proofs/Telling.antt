@@ -17,7 +17,7 @@ use Rattle.plan.specs.declared.Class.the-variants.{Operator as OPERATOR, Open a
 use Rattle.plan.specs.declared.Operator.{Operator}
 use Rattle.plan.proofs.Classes.{class-byte}
 use Rattle.plan.proofs.Marks.{mark-told}
-use Rattle.plan.proofs.Tests.{false-is-not-true}
+use Rattle.kinds.proofs.Tests.{false-is-not-true}
 use Rattle.plan.proofs.Tokens.{allowed-parts}
 use Rattle.text.specs.TokenEnds.{TokenEnds}
 use Rattle.pieces.specs.Written.{Is, is-operator, is-token, is-open, is-close, TokenAt}

@@ -1,5 +1,5 @@
 -- A turn of the loop that writes a text's pieces in a row: what stands in the output and what the pieces to come print are the whole.
-use Prim.Native.Nat.{ℕ, _+_, _-_, _≤_, _<_}
+use Prim.Native.Nat.{ℕ, _+_, _≤_}
 use mathlib.Core.Path.{_≡_, ap, sym, _∙_, subst}
 use mathlib.Core.List.{List, [], _++_, append-assoc, append-nil}
 use native.Mathlib.Omega.{arith}
@@ -10,12 +10,13 @@ use Rattle.plan.specs.Plan.{Plan, print}
 use Rattle.plan.specs.Pieces.{Shows, in-a-row, piece-print, pieces}
 use Rattle.plan.specs.Reading.{OUTSIDE, without-marks}
 use Rattle.plan.proofs.Pieces.{print-pieces, shows-row}
-use Rattle.pieces.specs.Written.{piece-bytes, piece-length, put-at, InText}
+use Rattle.kinds.specs.Written.{put-at}
+use Rattle.pieces.specs.Written.{piece-bytes, piece-length, InText}
 use Rattle.pieces.specs.declared.Piece.{Piece as CodePiece}
 use Rattle.pieces.proofs.Pieces.{is-in-text, is-printed, length-piece}
-use Rattle.pieces.proofs.Putting.{put-long, put-nothing, put-on}
-use Rattle.items.specs.Walk.{ShowsAhead, Passed, Tidyable, Walked}
-use Rattle.items.specs.declared.NextPiece.the-variants.{End}
+use Rattle.kinds.proofs.Putting.{put-long, put-nothing, put-on}
+use Rattle.items.specs.Walk.{ShowsAhead, Passed, Tidyable}
+use Rattle.items.proofs.Walking.{passed-ahead}
 
 pub record Tidying (text out₀ : List ℕ) (from : ℕ) (out : List ℕ) (at put : ℕ) : Type 0 where
   pub ahead : ShowsAhead text at
@@ -44,7 +45,7 @@ module _ {text out₀ : List ℕ} {from : ℕ} {out : List ℕ} {at put : ℕ} (
   tidy-long = ap length (inv .holds) ∙ put-long out₀ from (inv .gone) so-far
 
   -- the whole is written, of every plan whose pieces the text shows
-  pub tidy-last : Walked text at End (inv .ahead .come) → (p : Plan ℕ) → Shows tokenLimit 0 text (pieces p) → out ≡ put-at out₀ from (print p)
+  pub tidy-last : inv .ahead .come ≡ [] → (p : Plan ℕ) → Shows tokenLimit 0 text (pieces p) → out ≡ put-at out₀ from (print p)
   unfolding in-a-row
   tidy-last none p s =
       let all : print p ≡ inv .gone = print-pieces p ∙ shows-row s ∙ inv .whole ∙ ap (λ ps. inv .gone ++ in-a-row ps) none ∙ append-nil (inv .gone) in
@@ -83,13 +84,10 @@ module _ {text out₀ : List ℕ} {from : ℕ} {out : List ℕ} {at put : ℕ} (
     unfolding bytes
     tidy-on out′ e len is =
         record {
-          ahead = record { short = inv .ahead .short; come = passed .later; shows = passed .shows };
+          ahead = passed-ahead (inv .ahead) passed;
           gone = inv .gone ++ bytes;
           whole = parts;
           room = inv .room;
           put-at-end = omega (arith, long, inv .put-at-end, is, length-append (inv .gone) bytes);
           holds = e ∙ rw (inv .holds, inv .put-at-end, is-printed (passed .is)) (put-on out₀ from (inv .gone) so-far bytes);
         }
-
-    pub tidy-less : length text - rest < length text - at
-    tidy-less = omega (arith, passed .ahead, passed .within)

@@ -4,7 +4,7 @@ ghost use Prim.Native.Nat.{ℕ};
 ghost use Rattle.kinds.specs.Limits.{tokenLimit};
 ghost use Rattle.plan.specs.Plan.{Plan, print};
 ghost use Rattle.plan.specs.Pieces.{Shows, pieces};
-ghost use Rattle.pieces.specs.Written.{put-at};
+ghost use Rattle.kinds.specs.Written.{put-at};
 ghost use Rattle.items.specs.Walk.{Tidyable};
 use crate::Cursor;
 use crate::NextPiece;

@@ -32,15 +32,11 @@ use Rattle.filing.proofs.RollAnswer as R
 use Rattle.filing.proofs.RollAnswer.Laws as R′
 use Rattle.filing.proofs.Tally as T
 use Rattle.keeping.specs.Calls.{Adds}
-use Rattle.keeping.specs.Keeping.{EnteredAs}
+use Rattle.keeping.specs.Keeping.{Counted, EnteredAs}
 use Rattle.keeping.specs.declared.Entered.{Entered}
 use Rattle.keeping.proofs.Entered as E
 use Rattle.keeping.proofs.Entered.Laws as E′
 use Rattle.keeping.proofs.count as count
-
--- what `count` says
-abbrev pub Counted : (tally : Tally) → Entered → RollAnswer → (tally′ : Tally) → Type 0
-Counted h e r k = (r ≡ e .answer) × (k .filed ≡ grown (e .filed) (h .filed)) × (k .done ≡ grown (e .done) (h .done))
 
 pub adds : (a : Added) (h k : Tally) (e : Entered) (r : RollAnswer) (zs : List ℕ) → EnteredAs a e zs → Counted h e r k → Adds a h r zs k
 adds a h k e r zs n c = record {

@@ -2,8 +2,6 @@
 use Prim.Native.Nat.{ℕ, _+_, _-_, _≤_, _<_, min}
 use mathlib.Core.Path.{_≡_, refl, ap, sym, _∙_}
 use mathlib.Core.Logic.{inl, inr, _≢_}
-use mathlib.Core.Bool.{Bool}
-use mathlib.Core.Option.{Option}
 use mathlib.Core.List.{List}
 use native.Mathlib.Omega.{arith}
 use native.Mathlib.Decide.{decLt}
@@ -11,8 +9,6 @@ use borrow.Author.Tests.{le-ltb, lt-ltb, ne-eqb}
 use lib.ListN.{length, take, length-take}
 use lib.Seq.{take-all}
 use Rattle.filing.specs.Answers.{edition-1, in-use, judged, longest}
-use Rattle.filing.specs.Format.{Entry}
-use Rattle.filing.specs.declared.RollRefusal.{RollRefusal}
 use Rattle.filing.specs.declared.RollRefusal.the-variants.{TooLong}
 use Rattle.adding.specs.Adding.{opening}
 use Rattle.keeping.specs.Keeping.{JudgedWeighed, RollWeighed}
@@ -29,8 +25,8 @@ taken buffer used end e = go (decLt used (length buffer))
         let all : end - 0 ≡ length buffer = omega (arith, e) in
         ap (λ k. take k buffer) all ∙ take-all (length buffer) buffer (omega arith) ∙ sym (take-all used buffer (omega arith))
 
-module _ (buffer : List ℕ) (used : ℕ) (fault : List Entry → Option RollRefusal) (new : List Entry → Bool) where
-  pub use-too-long : longest < length buffer → JudgedWeighed (in-use edition-1 buffer used) fault new (length buffer) (Refused TooLong)
+module _ (buffer : List ℕ) (used : ℕ) (parts : List (List ℕ)) where
+  pub use-too-long : longest < length buffer → JudgedWeighed (in-use edition-1 buffer used) parts (length buffer) (Refused TooLong)
   unfolding in-use
   use-too-long h = inl (rw (lt-ltb longest (length buffer) h) refl)
 
@@ -42,23 +38,20 @@ module _ (buffer : List ℕ) (used : ℕ) (fault : List Entry → Option RollRef
     shorter : length (take (end - 0) buffer) ≤ length buffer
     shorter = omega (arith, length-take (end - 0) buffer)
 
-    pub use-weighed : (r : Weighing) → RollWeighed (take (end - 0) buffer) fault new r → JudgedWeighed (in-use edition-1 buffer used) fault new (length buffer) r
+    pub use-weighed : (r : Weighing) → RollWeighed (take (end - 0) buffer) parts r → JudgedWeighed (in-use edition-1 buffer used) parts (length buffer) r
     use-weighed (Refused q) (inl h) = inl (sym same ∙ h)
     use-weighed (Refused q) (inr (es, last, reads, h)) = inr (es, last, sym same ∙ reads, h)
-    use-weighed (Fine n f d last b) w =
+    use-weighed (Fine s f d) w =
         record {
           es = w .es;
           reads = sym same ∙ w .reads;
-          many = w .many;
-          filed-so = w .filed-so;
-          done-so = w .done-so;
+          comes = w .comes;
           within = omega (arith, w .within, shorter);
           few = w .few;
-          filed-few = w .filed-few;
-          done-few = w .done-few;
           short = short;
           fine = w .fine;
-          new-so = w .new-so;
+          filed-so = w .filed-so;
+          done-so = w .done-so;
         }
 
 -- where a new entry ends

@@ -1,42 +1,46 @@
--- What the parts of adding promise each other. The rules of FILED and of DONE are given as what is wrong with the entry, by the earlier
--- ones, and whether it counts as a job filed.
+-- What the parts of adding promise each other: of the roll, what it comes to; of the entry, by its sections, what is wrong with it.
 use Prim.Native.Nat.{ℕ, _*_, _≤_}
 use mathlib.Core.Path.{_≡_}
 use mathlib.Core.Logic.{_⊎_}
 use mathlib.Core.Bool.{Bool, false}
-use mathlib.Core.Option.{Option, none, some}
+use mathlib.Core.Option.{none, some}
 use mathlib.Core.List.{List, reverse}
 use lib.ListN.{length}
-use Rattle.filing.specs.Answers.{Added, Judged, READS, REFUSES, edition-1, judged, longest}
+use Rattle.kinds.specs.Limits.{standard}
+use Rattle.filing.specs.Answers.{Added, Judged, READS, REFUSES, edition-1, grown, judged, longest, new-entry, sums}
 use Rattle.filing.specs.Format.{Entry}
-use Rattle.filing.specs.Rules.{done, filed}
+use Rattle.filing.specs.Rules.{counts-done, counts-filed, fault, says}
+use Rattle.filing.specs.declared.RollAnswer.{RollAnswer}
 use Rattle.filing.specs.declared.RollAnswer.the-variants.{Refused as RefusedRoll}
 use Rattle.filing.specs.declared.RollRefusal.{RollRefusal}
+use Rattle.filing.specs.declared.Sums.{Sums}
+use Rattle.filing.specs.declared.Tally.{Tally}
 use Rattle.keeping.specs.declared.Entered.{Entered}
 use Rattle.keeping.specs.declared.Weighing.{Weighing}
 use Rattle.keeping.specs.declared.Weighing.the-variants.{Refused, Fine}
 
 -- a roll that reads, to which the entry may be added
-pub record FineRoll (j : Judged) (fault : List Entry → Option RollRefusal) (new : List Entry → Bool) (bytes entries filed₁ done₁ end : ℕ) (is-new : Bool) : Type 0 where
+pub record FineRoll (j : Judged) (parts : List (List ℕ)) (bytes : ℕ) (s : Sums) (more-filed more-done : Bool) : Type 0 where
   pub es : List Entry
-  pub reads : j ≡ READS es end
-  pub many : entries ≡ length es
-  pub filed-so : filed₁ ≡ filed (reverse es)
-  pub done-so : done₁ ≡ done (reverse es)
-  pub within : end ≤ bytes
-  pub few : 4 * entries ≤ end
-  pub filed-few : filed₁ ≤ entries
-  pub done-few : done₁ ≤ entries
+  pub reads : j ≡ READS es (s .end)
+  pub comes : s ≡ sums (reverse es) (s .end)
+  pub within : s .end ≤ bytes
+  pub few : 4 * s .entries ≤ s .end
   pub short : bytes ≤ longest
-  pub fine : fault (reverse es) ≡ none
-  pub new-so : is-new ≡ new (reverse es)
+  pub fine : fault standard (reverse es) (new-entry (s .end) parts) ≡ none
+  pub filed-so : more-filed ≡ counts-filed (reverse es) (says parts)
+  pub done-so : more-done ≡ counts-done (says parts)
 
-abbrev pub JudgedWeighed : (j : Judged) → (fault : List Entry → Option RollRefusal) → (new : List Entry → Bool) → (bytes : ℕ) → Weighing → Type 0
-JudgedWeighed j fault new bytes (Refused q) = (j ≡ REFUSES q) ⊎ ((es : List Entry) × (end : ℕ) × (j ≡ READS es end) × (fault (reverse es) ≡ some q))
-JudgedWeighed j fault new bytes (Fine n f d e b) = FineRoll j fault new bytes n f d e b
+-- a roll that does not read, or an entry with which something is wrong
+abbrev pub RefusedFirst : (j : Judged) → (parts : List (List ℕ)) → RollRefusal → Type 0
+RefusedFirst j parts q = (j ≡ REFUSES q) ⊎ ((es : List Entry) × (end : ℕ) × (j ≡ READS es end) × (fault standard (reverse es) (new-entry end parts) ≡ some q))
 
-abbrev pub RollWeighed : (roll : List ℕ) → (fault : List Entry → Option RollRefusal) → (new : List Entry → Bool) → Weighing → Type 0
-RollWeighed roll fault new r = JudgedWeighed (judged edition-1 roll) fault new (length roll) r
+abbrev pub JudgedWeighed : (j : Judged) → (parts : List (List ℕ)) → (bytes : ℕ) → Weighing → Type 0
+JudgedWeighed j parts bytes (Refused q) = RefusedFirst j parts q
+JudgedWeighed j parts bytes (Fine s f d) = FineRoll j parts bytes s f d
+
+abbrev pub RollWeighed : (roll : List ℕ) → (parts : List (List ℕ)) → Weighing → Type 0
+RollWeighed roll parts r = JudgedWeighed (judged edition-1 roll) parts (length roll) r
 
 -- what the code answers is what the definition says
 abbrev pub refused-entry : RollRefusal → Entered
@@ -47,3 +51,7 @@ pub record EnteredAs (a : Added) (r : Entered) (buffer : List ℕ) : Type 0 wher
   pub bytes : buffer ≡ a .buffer
   pub more-filed : r .filed ≡ a .more-filed
   pub more-done : r .done ≡ a .more-done
+
+-- what was added is answered, and counted in the tally lent
+abbrev pub Counted : (tally : Tally) → Entered → RollAnswer → (tally′ : Tally) → Type 0
+Counted h e r k = (r ≡ e .answer) × (k .filed ≡ grown (e .filed) (h .filed)) × (k .done ≡ grown (e .done) (h .done))

@@ -1,57 +1,40 @@
 // Adding an entry to a roll: weighed, and written at the end where there is room.
 ghost use mathlib.Core.Path.{_≡_};
-ghost use mathlib.Core.Bool.{false};
 ghost use Prim.Native.Nat.{_+_, _≤_, min};
 ghost use lib.ListN.{length};
-ghost use Rattle.filing.specs.Answers.{close-job, edition-1, file, grown, in-use, longest};
-ghost use Rattle.adding.specs.Adding.{fault-of, new-of, opening};
-ghost use Rattle.keeping.specs.Keeping.{EnteredAs, JudgedWeighed, RollWeighed, refused-entry};
+ghost use Rattle.filing.specs.Answers.{add, close-job, edition-1, file, grown, in-use, longest, parts-of};
+ghost use Rattle.adding.specs.Adding.{opening};
+ghost use Rattle.keeping.specs.Keeping.{Counted, EnteredAs, JudgedWeighed, RollWeighed, refused-entry};
 ghost use Rattle.keeping.specs.Calls.{Adds};
-use adding::EntryKind;
-use adding::MayAdd;
-use adding::put_done;
-use adding::put_filed;
-use adding::weigh_entry;
+use adding::entry_size;
+use adding::put_entry;
+use filing::EntryKind;
 use filing::LONGEST;
 use filing::RollAnswer;
 use filing::RollRefusal;
+use filing::Sums;
 use filing::Tally;
 use filing::grown;
-use roll::LookedOver;
 use roll::look_over;
+use stored::LARGEST;
+use weighing::Weighed;
+use weighing::weigh;
 
-// Whether an entry may be added, but for room: what the roll comes to and where it ends, and whether the job is new in it.
+// Whether an entry may be added where there is room: what the roll comes to, and whether the entry counts as a job filed, or done.
 pub enum Weighing {
     Refused(RollRefusal),
-    Fine {
-        entries: u32,
-        filed: u32,
-        done: u32,
-        end: u32,
-        new: bool,
-    },
+    Fine { sums: Sums, filed: bool, done: bool },
 }
 
 // What the roll comes to, and then what is wrong with the entry.
 fn weigh_roll(roll: &[u8], kind: EntryKind, job: &[u8], text: &[u8]) -> Weighing
-    ensures { λ r. ⌜ RollWeighed (now (roll .entry)) (fault-of kind (now (job .entry)) (now (text .entry))) (new-of kind (now (job .entry))) r ⌝ }
+    ensures { λ r. ⌜ RollWeighed (now (roll .entry)) (parts-of kind (now (job .entry)) (now (text .entry))) r ⌝ }
 {
     match look_over(roll) {
-        LookedOver::Refused(refusal) => Weighing::Refused(refusal),
-        LookedOver::Reads {
-            entries,
-            filed,
-            done,
-            end,
-        } => match weigh_entry(roll, end, kind, job, text) {
-            MayAdd::Refused(refusal) => Weighing::Refused(refusal),
-            MayAdd::Fine { new } => Weighing::Fine {
-                entries,
-                filed,
-                done,
-                end,
-                new,
-            },
+        RollAnswer::Refused(refusal) => Weighing::Refused(refusal),
+        RollAnswer::Listed(sums) => match weigh(roll, sums.end as usize, kind, job, text) {
+            Weighed::Faulty(refusal) => Weighing::Refused(refusal),
+            Weighed::Fine { filed, done } => Weighing::Fine { sums, filed, done },
         },
     }
 }
@@ -67,7 +50,7 @@ fn least(a: usize, b: usize) -> usize
 
 // Of a buffer only the bytes in use are a roll; a longer use counts as all of it.
 fn weigh_used(buffer: &[u8], used: usize, kind: EntryKind, job: &[u8], text: &[u8]) -> Weighing
-    ensures { λ r. ⌜ JudgedWeighed (in-use edition-1 (now (buffer .entry)) used) (fault-of kind (now (job .entry)) (now (text .entry))) (new-of kind (now (job .entry))) (length (now (buffer .entry))) r ⌝ }
+    ensures { λ r. ⌜ JudgedWeighed (in-use edition-1 (now (buffer .entry)) used) (parts-of kind (now (job .entry)) (now (text .entry))) (length (now (buffer .entry))) r ⌝ }
 {
     if LONGEST < buffer.len() {
         return Weighing::Refused(RollRefusal::TooLong);
@@ -94,7 +77,7 @@ fn capped(bytes: usize) -> u32
     if bytes < LONGEST {
         return bytes as u32;
     }
-    4_294_967_295
+    LARGEST
 }
 
 // What adding answers, and whether the tally's two counts grow by it.
@@ -114,73 +97,39 @@ fn not_entered(refusal: RollRefusal) -> Entered
     }
 }
 
-// Adds a FILED.
-pub fn file_entry(buffer: &mut [u8], used: usize, job: &[u8], text: &[u8]) -> Entered
-    ensures { λ r. ⌜ EnteredAs (file edition-1 (now (buffer .entry)) used (now (job .entry)) (now (text .entry))) r (now (buffer .exit)) ⌝ }
+// Adds an entry of either kind. A DONE has no text, and what is given for one is not looked at.
+fn add_entry(buffer: &mut [u8], used: usize, kind: EntryKind, job: &[u8], text: &[u8]) -> Entered
+    ensures { λ r. ⌜ EnteredAs (add edition-1 (now (buffer .entry)) used (parts-of kind (now (job .entry)) (now (text .entry)))) r (now (buffer .exit)) ⌝ }
 {
-    match weigh_used(buffer, used, EntryKind::Filed, job, text) {
+    match weigh_used(buffer, used, kind, job, text) {
         Weighing::Refused(refusal) => not_entered(refusal),
-        Weighing::Fine {
-            entries,
-            filed,
-            done,
-            end,
-            new,
-        } => {
-            let last = new_end(end, 12 + job.len() + text.len());
+        Weighing::Fine { sums, filed, done } => {
+            let last = new_end(sums.end, entry_size(kind, job, text));
             if buffer.len() < last {
                 return not_entered(RollRefusal::NoRoom(capped(last)));
             }
-            put_filed(buffer, end as usize, job, text);
-            let many = entries + 1;
-            let place = last as u32;
+            put_entry(buffer, sums.end as usize, kind, job, text);
+            let end = last as u32;
             Entered {
-                answer: RollAnswer::Listed {
-                    entries: many,
-                    filed: grown(filed, new),
-                    done,
-                    end: place,
-                },
-                filed: new,
-                done: false,
+                answer: RollAnswer::Listed(sums.with_entry(filed, done, end)),
+                filed,
+                done,
             }
         }
     }
 }
 
-// Adds a DONE.
+// The two kinds by name, so that the functions that are lent a tally only hand over.
+pub fn file_entry(buffer: &mut [u8], used: usize, job: &[u8], text: &[u8]) -> Entered
+    ensures { λ r. ⌜ EnteredAs (file edition-1 (now (buffer .entry)) used (now (job .entry)) (now (text .entry))) r (now (buffer .exit)) ⌝ }
+{
+    add_entry(buffer, used, EntryKind::Filed, job, text)
+}
+
 pub fn done_entry(buffer: &mut [u8], used: usize, job: &[u8]) -> Entered
     ensures { λ r. ⌜ EnteredAs (close-job edition-1 (now (buffer .entry)) used (now (job .entry))) r (now (buffer .exit)) ⌝ }
 {
-    match weigh_used(buffer, used, EntryKind::Done, job, b"") {
-        Weighing::Refused(refusal) => not_entered(refusal),
-        Weighing::Fine {
-            entries,
-            filed,
-            done,
-            end,
-            new,
-        } => {
-            let last = new_end(end, 8 + job.len());
-            if buffer.len() < last {
-                return not_entered(RollRefusal::NoRoom(capped(last)));
-            }
-            put_done(buffer, end as usize, job);
-            let many = entries + 1;
-            let closed = done + 1;
-            let place = last as u32;
-            Entered {
-                answer: RollAnswer::Listed {
-                    entries: many,
-                    filed,
-                    done: closed,
-                    end: place,
-                },
-                filed: false,
-                done: true,
-            }
-        }
-    }
+    add_entry(buffer, used, EntryKind::Done, job, b"")
 }
 
 // The next two take values, so that of the tally lent `count` only reads and stores it whole.
@@ -201,7 +150,7 @@ fn answer_of(entered: Entered) -> RollAnswer
 
 // Counts in the tally lent what was added, and answers it.
 fn count(tally: &mut Tally, entered: Entered) -> RollAnswer
-    ensures { λ r. ⌜ (r ≡ entered .answer) × (now (tally .exit) .filed ≡ grown (entered .filed) (now (tally .entry) .filed)) × (now (tally .exit) .done ≡ grown (entered .done) (now (tally .entry) .done)) ⌝ }
+    ensures { λ r. ⌜ Counted (now (tally .entry)) entered r (now (tally .exit)) ⌝ }
 {
     *tally = with_entry(*tally, entered);
     answer_of(entered)

@@ -16,7 +16,7 @@ use Rattle.plan.specs.Reading.{FAULT, PLAN, Reading, read-bytes, read-text}
 use Rattle.plan.proofs.Accepting.{text-short, text-too-long}
 use Rattle.plan.proofs.Outcomes.{write-gives, wrote-once}
 use Rattle.plan.proofs.Refusals.{faulty-read, plan-injective, read-faulty}
-use Rattle.plan.proofs.Tests.{cond-cases, never}
+use Rattle.kinds.proofs.Tests.{cond-cases, never}
 use Rattle.words.specs.Answers.{link-by, link-family, link-numbers, link-read, links, within}
 use Rattle.words.specs.Linking.{Word}
 use Rattle.words.specs.Stock.{FAULT as LIST-FAULT, Stock, WORDS, stock}

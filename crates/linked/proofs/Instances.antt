@@ -7,18 +7,17 @@ use native.Mathlib.Omega.{arith}
 use lib.ListN.{length, replicate, length-replicate}
 use Rattle.kinds.specs.Limits.{textLimit}
 use Rattle.plan.specs.declared.TextFault.the-variants.{TooLong, Unmatched}
-use Rattle.plan.specs.Options.{under}
-use Rattle.plan.specs.Outcomes.{is-given, write}
-use Rattle.plan.specs.Plan.{Plan, _then_, cells, letter, print}
-use Rattle.plan.specs.Read.{acceptable, as-read, reads}
-use Rattle.plan.specs.Reading.{accept, class, enter, fit, go-on, leave, mark, move, past-token, place, plan-in, plan-of, read-from, read-text, without-marks}
-use Rattle.plan.specs.Token.{all-permitted, allowed, annotation, before-brace, character, if-allowed, may-hold, permits, token-text}
+use Rattle.plan.specs.Plan.{Plan, cells}
+use Rattle.plan.specs.Read.{reads}
+use Rattle.plan.specs.Reading.{enter, leave, place, without-marks}
+use Rattle.plan.specs.Token.{annotation}
 use Rattle.numbers.specs.Rows.{bytes}
-use Rattle.stored.specs.Counted.{counted, number, so-many, then-read}
 use Rattle.stored.specs.Same.{same}
-use Rattle.words.specs.Answers.{link-by, link-numbers, link-read, link-refusal-numbers, links, within}
-use Rattle.words.specs.Linking.{Word, holds, in-place, link, listed, stands-for, used}
-use Rattle.words.specs.Stock.{as-counted, fits, is-name, next-word, right, stock, stocked, word}
+use Rattle.words.specs.Answers.{link-numbers, link-refusal-numbers, links}
+use Rattle.plan.proofs.Worked.{read-answer}
+use Rattle.words.proofs.Worked.{worked-lists}
+use Rattle.words.specs.Linking.{Word, holds}
+use Rattle.words.specs.Stock.{word}
 use Rattle.words.specs.declared.LinkAnswer.the-variants.{Linked, Refused}
 use Rattle.words.specs.declared.LinkRefusal.the-variants.{BadWords, Text, Overfull, OutShort}
 use Rattle.linking.specs.Calls.{Links}
@@ -76,7 +75,7 @@ pub calls : Links list text out (Linked 9 22) (bytes "[{y}][{y}][[{y}]]{%q}a" ++
     × Links (2 ∷ 0 ∷ 0 ∷ 0 ∷ in-list (bytes "x") (bytes "[{%z}]") ++ in-list (bytes "z") []) text out (Refused (BadWords 1)) out
     × Links too-big (bytes "{%w}") out (Linked 1 1) (97 ∷ replicate 23 7)
     × Links (annotated (bytes "{&}{y}")) (bytes "{&a}{%x}") out (Linked 1 3) (bytes "{y}" ++ replicate 21 7)
-unfolding uses links link-by link-read within write read-text stock as-counted stocked next-word right fits is-name acceptable is-given reads as-read word listed used holds plan-of plan-in link in-place stands-for number so-many counted then-read same accept read-from go-on move past-token mark annotation fit class token-text if-allowed before-brace allowed all-permitted permits may-hold character cells print letter _then_ under bytes
+unfolding worked-lists uses
 calls = (
   record { wrote = record { answer = refl; output = refl } },
   record { wrote = record { answer = refl; output = refl } },
@@ -112,7 +111,7 @@ bad-lists = (
 -- a word at fault, in each of the ways: `OneOf` in both of its own, and `Uses` in a block
 pub faulty-words : FaultyWord [] (of [] []) × FaultyWord [] (of (bytes "{") []) × FaultyWord (of (bytes "z") [] ∷ of (bytes "x") [] ∷ []) (of (bytes "x") [])
     × FaultyWord [] (of (bytes "x") (bytes "{y}]")) × FaultyWord [] (of (bytes "x") (bytes "[{%x}]"))
-unfolding holds plan-of plan-in same acceptable is-given reads as-read accept read-text read-from go-on move past-token mark annotation fit class token-text if-allowed before-brace allowed all-permitted permits may-hold character cells _then_ under bytes
+unfolding read-answer holds same bytes
 faulty-words = (
   no-name refl,
   bad-name refl,

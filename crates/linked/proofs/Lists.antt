@@ -14,7 +14,7 @@ use Rattle.kinds.specs.Limits.{standard, tokenLimit}
 use Rattle.plan.specs.Read.{acceptable}
 use Rattle.plan.specs.Reading.{plan-of}
 use Rattle.plan.specs.Token.{allowed}
-use Rattle.plan.proofs.Tests.{and-true, false-is-not-true, never}
+use Rattle.kinds.proofs.Tests.{and-true, false-is-not-true, never}
 use Rattle.stored.specs.Counted.{AtFront, CUT, FRONT, number}
 use Rattle.stored.specs.Same.{same}
 use Rattle.stored.proofs.Same.{same-equal, same-true}

@@ -17,7 +17,7 @@ use Rattle.plan.specs.Token.{allowed, annotation}
 use Rattle.plan.proofs.Acceptable.{acceptable-plan}
 use Rattle.plan.proofs.Plans.{then-end}
 use Rattle.plan.proofs.Accepting.{print-accepted, standard-roomy}
-use Rattle.plan.proofs.Tests.{and-true}
+use Rattle.kinds.proofs.Tests.{and-true}
 use Rattle.plan.proofs.Tokens.{allowed-parts}
 use Rattle.words.specs.Answers.{within}
 use Rattle.words.specs.Linking.{Word, in-place, link, stands-for, stock-token}

@@ -10,7 +10,7 @@ use Rattle.plan.specs.declared.TextFault.{TextFault}
 use Rattle.plan.specs.declared.Unread.{Unread}
 use Rattle.plan.specs.declared.Unread.the-variants.{Text}
 use Rattle.plan.specs.Refusals.{Unreadable, bad-text, faulty, overfull, too-long}
-use Rattle.plan.proofs.Tests.{never}
+use Rattle.kinds.proofs.Tests.{never}
 use Rattle.numbers.specs.Numbers.{fault-numbers, read-numbers}
 use Rattle.words.specs.Answers.{link-numbers}
 use Rattle.words.specs.Linking.{Word}

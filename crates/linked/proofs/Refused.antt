@@ -10,7 +10,7 @@ use Rattle.kinds.specs.Limits.{cellLimit, standard}
 use Rattle.plan.specs.declared.TextFault.{TextFault}
 use Rattle.plan.specs.Plan.{Plan, cells, print}
 use Rattle.plan.proofs.Outcomes.{written}
-use Rattle.plan.proofs.Tests.{never}
+use Rattle.kinds.proofs.Tests.{never}
 use Rattle.numbers.specs.declared.Numbers.{Numbers}
 use Rattle.numbers.specs.Numbers.{fault-numbers, outshort-numbers}
 use Rattle.numbers.proofs.Told.{fault-number-is}

@@ -1,5 +1,5 @@
 -- The turns of the loop that builds a plan from an accepted text, with the memory and what is kept beside it.
-use Prim.Native.Nat.{ℕ, _-_, _≤_, _<_}
+use Prim.Native.Nat.{ℕ, _≤_}
 use mathlib.Core.Path.{_≡_, refl, ap, sym, _∙_, subst}
 use mathlib.Core.List.{List, []}
 use native.Mathlib.Omega.{arith}
@@ -13,6 +13,7 @@ use Rattle.plan.proofs.ReadBack.{read-accepted}
 use Rattle.plan.proofs.Refusals.{accepted-injective}
 use Rattle.pieces.specs.declared.Piece.{Piece as CodePiece}
 use Rattle.items.specs.Walk.{ShowsAhead, Passed}
+use Rattle.items.proofs.Walking.{passed-ahead}
 use Rattle.memory.specs.Held.{HeldAlike}
 use Rattle.memory.specs.Model.{Aside, Finished, Fresh, Lent, PieceReady, Buildable, Stepped, model, with-piece}
 use Rattle.memory.specs.declared.Build.{Build}
@@ -65,16 +66,13 @@ module _ {text m₀ : List ℕ} {b₀ : Build} {m : List ℕ} {b : Build} {at : 
         record {
           plan = o .plan;
           accepted = rw (p .outer) (o .accepted);
-          ahead = record { short = o .ahead .short; come = passed .later; shows = passed .shows };
+          ahead = passed-ahead (o .ahead) passed;
           lent = subst (λ c. Lent (c .0) m′) (sym (p .outer)) (still-lent p (o .lent));
           same = p .outer ∙ o .same;
           aside = aside-on (o .aside) (subst (λ c. Aside (c .0) m m′) (o .same) (p .aside));
           placed = subst (λ c. Placed text (c .0) (c .0) [] (o .plan) (model m′ b′) (passed .later)) (sym (p .outer))
               (subst (λ s. Placed text (b .outer .0) (b .outer .0) [] (o .plan) s (passed .later)) (sym (p .steps)) (put .placed));
         }
-
-    pub onward-less : length text - rest < length text - at
-    onward-less = omega (arith, passed .ahead, passed .within)
 
   -- behind the last piece
   module _ {m′ : List ℕ} {h : Held} (f : Finished m b m′ h) where

@@ -11,6 +11,7 @@ use Rattle.pieces.specs.Written.{Is, is-close, is-open, is-operator, is-token, 
 use Rattle.pieces.specs.declared.Piece.{Piece as CodePiece}
 use Rattle.pieces.specs.declared.Piece.the-variants.{Operator, Token, Open, Close}
 use Rattle.pieces.proofs.Pieces.{is-in-text, is-printed, length-piece}
+use Rattle.stored.specs.Counted.{largest}
 use Rattle.words.specs.Places.{put-in}
 use Rattle.shelf.specs.Notes.{noted}
 use Rattle.shelf.specs.Shelf.{linked-word, seek-piece, stands-to}
@@ -69,28 +70,28 @@ piece-weight {text} {k} {x} {c} {l} is e f =
     (let z : l ≡ min (length (in-a-row (x ∷ []))) pastBytes = f ∙ ap (λ n. min n pastBytes) (sym bytes) in z)
 
 -- what is put for a piece: the piece itself, what is remembered of its word, or its word
-module _ (list starts text : List ℕ) (n : ℕ) {k : CodePiece} {x : Piece ℕ} (is : Is text k x) {found : Named} (told : found ≡ seek-piece list starts n x) where
-  pub hand-stays : {w : Weight} → found ≡ Unlisted → w ≡ weight-of (x ∷ []) → w ≡ weight-of (put-in (stands-to list starts n) x)
-  hand-stays e h = h ∙ ap weight-of (sym (piece-unlisted list starts n x (sym told ∙ e)))
+module _ (list spans text : List ℕ) (n : ℕ) {k : CodePiece} {x : Piece ℕ} (is : Is text k x) {found : Named} (told : found ≡ seek-piece list spans n x) where
+  pub hand-stays : {w : Weight} → found ≡ Unlisted → w ≡ weight-of (x ∷ []) → w ≡ weight-of (put-in (stands-to list spans n) x)
+  hand-stays e h = h ∙ ap weight-of (sym (piece-unlisted list spans n x (sym told ∙ e)))
 
   module _ {r : ℕ} (e : found ≡ Listed r) where
-    pub hand-word : (r < n) × (put-in (stands-to list starts n) x ≡ pieces (linked-word list starts r))
-    hand-word = piece-listed list starts n x (sym told ∙ e)
+    pub hand-word : (r < n) × (put-in (stands-to list spans n) x ≡ pieces (linked-word list spans r))
+    hand-word = piece-listed list spans n x (sym told ∙ e)
 
-    pub hand-known : (notes : List ℕ) {a b : ℕ} {was : Noted} → WeightsKnown list starts notes → was ≡ noted notes r → was ≡ Both a b
-        → record { cells = a; length = b } ≡ weight-of (put-in (stands-to list starts n) x)
+    pub hand-known : (notes : List ℕ) {a b : ℕ} {was : Noted} → WeightsKnown list spans notes → was ≡ noted notes r → was ≡ Both a b
+        → record { cells = a; length = b } ≡ weight-of (put-in (stands-to list spans n) x)
     hand-known notes known is-noted both =
-        sym (known r _ _ (sym is-noted ∙ both)) ∙ weight-pieces (linked-word list starts r) ∙ ap weight-of (sym (hand-word .1))
+        sym (known r _ _ (sym is-noted ∙ both)) ∙ weight-pieces (linked-word list spans r) ∙ ap weight-of (sym (hand-word .1))
 
 -- what was told of a piece, by what it was found to be
-module _ (list starts : List ℕ) (n : ℕ) (x : Piece ℕ) {h : AtHand} (tells : AtHandTells list starts n h x) where
-  pub tells-known : {w : Weight} → h ≡ Known w → w ≡ weight-of (put-in (stands-to list starts n) x)
-  tells-known e = subst (λ z. AtHandTells list starts n z x) e tells
+module _ (list spans : List ℕ) (n : ℕ) (x : Piece ℕ) {h : AtHand} (tells : AtHandTells list spans n h x) where
+  pub tells-known : {w : Weight} → h ≡ Known w → w ≡ weight-of (put-in (stands-to list spans n) x)
+  tells-known e = subst (λ z. AtHandTells list spans n z x) e tells
 
-  pub tells-word : {r : ℕ} → h ≡ Word r → (r < n) × (put-in (stands-to list starts n) x ≡ pieces (linked-word list starts r))
-  tells-word e = subst (λ z. AtHandTells list starts n z x) e tells
+  pub tells-word : {r : ℕ} → h ≡ Word r → (r < n) × (put-in (stands-to list spans n) x ≡ pieces (linked-word list spans r))
+  tells-word e = subst (λ z. AtHandTells list spans n z x) e tells
 
 -- no weight is past the limit
-pub weight-small : {w : Weight} (p : Plan ℕ) → w ≡ weight p → w .cells < 4294967295
+pub weight-small : {w : Weight} (p : Plan ℕ) → w ≡ weight p → w .cells < largest
 unfolding weight
 weight-small p e = omega (arith, ap (λ (w : Weight). w .cells) e)

@@ -11,7 +11,8 @@ use Rattle.pieces.specs.declared.Piece.{Piece as CodePiece}
 use Rattle.pieces.specs.declared.Piece.the-variants.{Operator, Token, Open, Close}
 use Rattle.words.specs.Places.{put-in}
 use Rattle.shelf.specs.Notes.{noted}
-use Rattle.shelf.specs.Shelf.{Readable, Shelved, linked-word, stands-to}
+use Rattle.shelf.specs.Shelf.{Readable, Shelved, linked-word, stands-to, word-of}
+use Rattle.shelf.specs.Spans.{WordKept}
 use Rattle.shelf.specs.declared.Noted.the-variants.{Both}
 use Rattle.measuring.specs.declared.AtHand.{AtHand}
 use Rattle.measuring.specs.declared.AtHand.the-variants.{Known, Word}
@@ -45,17 +46,23 @@ piece-cells Open = 1
 piece-cells Close = 0
 
 -- what is remembered of a word is the weight of its linked plan
-abbrev pub WeightsKnown : (list starts notes : List ℕ) → Type 0
-WeightsKnown list starts notes = (r a b : ℕ) → noted notes r ≡ Both a b → weight (linked-word list starts r) ≡ record { cells = a; length = b }
+abbrev pub WeightsKnown : (list spans notes : List ℕ) → Type 0
+WeightsKnown list spans notes = (r a b : ℕ) → noted notes r ≡ Both a b → weight (linked-word list spans r) ≡ record { cells = a; length = b }
 
 -- a text can be weighed by the words of the ranks below n
-pub record CanWeigh (list starts text : List ℕ) (n : ℕ) (notes : List ℕ) : Type 0 where
-  pub shelved : Shelved list starts n
+pub record CanWeigh (list spans text : List ℕ) (n : ℕ) (notes : List ℕ) : Type 0 where
+  pub shelved : Shelved list spans n
   pub readable : Readable text
-  pub known : WeightsKnown list starts notes
+  pub known : WeightsKnown list spans notes
   pub long : 2 * n ≤ length notes
 
+-- the word of a rank can be weighed, and remembered
+pub record CanWeighWord (list spans : List ℕ) (rank : ℕ) (notes : List ℕ) : Type 0 where
+  pub kept : WordKept list spans rank
+  pub can : CanWeigh list spans (word-of list spans rank .text) rank notes
+  pub room : 2 * rank + 1 < length notes
+
 -- the weight of what is put for a piece is at hand, or it is a word's, which is not remembered
-abbrev pub AtHandTells : (list starts : List ℕ) → (n : ℕ) → AtHand → Piece ℕ → Type 0
-AtHandTells list starts n (Known w) x = w ≡ weight-of (put-in (stands-to list starts n) x)
-AtHandTells list starts n (Word r) x = (r < n) × (put-in (stands-to list starts n) x ≡ pieces (linked-word list starts r))
+abbrev pub AtHandTells : (list spans : List ℕ) → (n : ℕ) → AtHand → Piece ℕ → Type 0
+AtHandTells list spans n (Known w) x = w ≡ weight-of (put-in (stands-to list spans n) x)
+AtHandTells list spans n (Word r) x = (r < n) × (put-in (stands-to list spans n) x ≡ pieces (linked-word list spans r))

@@ -6,8 +6,8 @@ ghost use mathlib.Core.List.{List, [], _∷_};
 ghost use lib.ListN.{length};
 ghost use Rattle.plan.specs.Pieces.{Piece as PlanPiece};
 ghost use Rattle.pieces.specs.Written.{Is};
-ghost use Rattle.shelf.specs.Shelf.{PieceStands, linked-text};
-ghost use Rattle.measuring.specs.Weights.{AtHandTells, CanWeigh, WeightsKnown, pastBytes, piece-cells, plus, weight, weight-of};
+ghost use Rattle.shelf.specs.Shelf.{PieceStands, linked-text, linked-word};
+ghost use Rattle.measuring.specs.Weights.{AtHandTells, CanWeigh, CanWeighWord, WeightsKnown, pastBytes, piece-cells, plus, weight, weight-of};
 use items::Cursor;
 use items::NextPiece;
 use items::next;
@@ -19,7 +19,7 @@ use shelf::Noted;
 use shelf::find_piece;
 use shelf::note;
 use shelf::recall;
-use shelf::text_at;
+use shelf::text_of;
 
 // One more than a plan may have, and than its printed text can have.
 pub const PAST_CELLS: u32 = Cell::LIMIT as u32 + 1;
@@ -89,16 +89,16 @@ fn weight_of(piece: Piece) -> Weight
 // The weight of what is put for a piece, if it is at hand.
 fn at_hand(
     list: &[u8],
-    starts: &[u32],
+    spans: &[u32],
     text: &[u8],
     below: u32,
     notes: &[u32],
     piece: Piece,
 ) -> AtHand
-    requires { ⌜ CanWeigh (now list) (now starts) (now text) below (now notes) × PieceStands (now text) piece ⌝ }
-    ensures { λ r. ⌜ ((x : PlanPiece ℕ) → Is (now (text .entry)) piece x → AtHandTells (now (list .entry)) (now (starts .entry)) below r x) ⌝ }
+    requires { ⌜ CanWeigh (now list) (now spans) (now text) below (now notes) × PieceStands (now text) piece ⌝ }
+    ensures { λ r. ⌜ ((x : PlanPiece ℕ) → Is (now (text .entry)) piece x → AtHandTells (now (list .entry)) (now (spans .entry)) below r x) ⌝ }
 {
-    match find_piece(list, starts, below, text, piece) {
+    match find_piece(list, spans, below, text, piece) {
         Named::Unlisted => AtHand::Known(weight_of(piece)),
         Named::Listed(word) => match recall(notes, word) {
             Noted::Nothing => AtHand::Word(word),
@@ -107,12 +107,24 @@ fn at_hand(
     }
 }
 
-// Weighs a text's plan, linked by the words of the ranks below a bound. A word that it uses and that is not remembered is weighed by this
-// same function: its rank is smaller, so this ends.
-pub fn weigh(list: &[u8], starts: &[u32], text: &[u8], below: u32, notes: &mut [u32]) -> Weight
-    requires { ⌜ CanWeigh (now list) (now starts) (now text) below (now notes) ⌝ }
-    ensures told { λ r. ⌜ r ≡ weight (linked-text (now (list .entry)) (now (starts .entry)) below (now (text .entry))) ⌝ }
-    ensures known { λ r. ⌜ WeightsKnown (now (list .entry)) (now (starts .entry)) (now (notes .exit)) ⌝ }
+// Weighs a word that was not weighed yet, by the words before it, and remembers it.
+fn weigh_word(list: &[u8], spans: &[u32], word: u32, notes: &mut [u32]) -> Weight
+    requires { ⌜ CanWeighWord (now list) (now spans) word (now notes) ⌝ }
+    ensures told { λ r. ⌜ r ≡ weight (linked-word (now (list .entry)) (now (spans .entry)) word) ⌝ }
+    ensures known { λ r. ⌜ WeightsKnown (now (list .entry)) (now (spans .entry)) (now (notes .exit)) ⌝ }
+    ensures as_long { λ r. ⌜ length (now (notes .exit)) ≡ length (now (notes .entry)) ⌝ }
+{
+    let weight = weigh(list, spans, text_of(list, spans, word), word, notes);
+    note(notes, word, weight.cells, weight.length);
+    weight
+}
+
+// Weighs a text's plan, linked by the words of the ranks below a bound. A word that it uses and that is not remembered is weighed in the
+// same way: its rank is smaller, so this ends.
+pub fn weigh(list: &[u8], spans: &[u32], text: &[u8], below: u32, notes: &mut [u32]) -> Weight
+    requires { ⌜ CanWeigh (now list) (now spans) (now text) below (now notes) ⌝ }
+    ensures told { λ r. ⌜ r ≡ weight (linked-text (now (list .entry)) (now (spans .entry)) below (now (text .entry))) ⌝ }
+    ensures known { λ r. ⌜ WeightsKnown (now (list .entry)) (now (spans .entry)) (now (notes .exit)) ⌝ }
     ensures as_long { λ r. ⌜ length (now (notes .exit)) ≡ length (now (notes .entry)) ⌝ }
 {
     let mut sum = Weight {
@@ -124,14 +136,9 @@ pub fn weigh(list: &[u8], starts: &[u32], text: &[u8], below: u32, notes: &mut [
         match next(text, cursor) {
             NextPiece::End => return sum,
             NextPiece::Piece { piece, at, rest } => {
-                match at_hand(list, starts, text, below, notes, piece) {
+                match at_hand(list, spans, text, below, notes, piece) {
                     AtHand::Known(weight) => sum = plus(sum, weight),
-                    AtHand::Word(word) => {
-                        let place = starts[word as usize] as usize;
-                        let weight = weigh(list, starts, text_at(list, place), word, notes);
-                        note(notes, word, weight.cells, weight.length);
-                        sum = plus(sum, weight);
-                    }
+                    AtHand::Word(word) => sum = plus(sum, weigh_word(list, spans, word, notes)),
                 }
                 cursor = rest;
             }

@@ -1,6 +1,6 @@
 -- The walk that prints a plan in the memory, port by port along the chain up to the end mark, on plain values. Every plan that the
 -- memory holds has the ports that are ahead, so all of them have one printed text.
-use Prim.Native.Nat.{ℕ, zero, suc, _+_, _*_, _/_, _≤_, _<_}
+use Prim.Native.Nat.{ℕ, _+_, _*_, _/_, _≤_, _<_}
 use mathlib.Core.Path.{_≡_, refl, ap, sym, _∙_, subst}
 use mathlib.Core.Logic.{_≢_}
 use mathlib.Core.List.{List, [], _∷_, _++_}

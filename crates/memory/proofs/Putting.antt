@@ -9,10 +9,11 @@ use native.Mathlib.Nat.{add-zero}
 use lib.ListN.{length, take, drop}
 use lib.Seq.{length-take-le, take-length, take-at, take-add}
 use Rattle.plan.specs.Plan.{Plan, print}
-use Rattle.pieces.specs.Written.{piece-bytes, piece-length, put-at}
+use Rattle.kinds.specs.Written.{put-at}
+use Rattle.pieces.specs.Written.{piece-bytes, piece-length}
 use Rattle.pieces.specs.declared.Piece.{Piece}
-use Rattle.pieces.proofs.Putting.{put-long, put-nothing}
-use Rattle.pieces.proofs.Putting.{put-on as put-behind}
+use Rattle.kinds.proofs.Putting.{put-long, put-nothing}
+use Rattle.kinds.proofs.Putting.{put-on as put-behind}
 use Rattle.memory.specs.Held.{HeldIn}
 use Rattle.memory.specs.Memory.{close, link, whole}
 use Rattle.memory.specs.Pieces.{piece-at, PrintsWithin}

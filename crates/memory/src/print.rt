@@ -4,7 +4,7 @@ ghost use mathlib.Core.Path.{_≡_};
 ghost use Prim.Native.Nat.{ℕ, _+_, _*_, _/_, _≤_};
 ghost use lib.ListN.{length};
 ghost use Rattle.kinds.specs.Limits.{cellNumbers};
-ghost use Rattle.pieces.specs.Written.{put-at};
+ghost use Rattle.kinds.specs.Written.{put-at};
 ghost use Rattle.plan.specs.Plan.{Plan, print};
 ghost use Rattle.memory.specs.Held.{HeldIn};
 ghost use Rattle.memory.specs.Pieces.{piece-at, PrintsWithin, printLimit};

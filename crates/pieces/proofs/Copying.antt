@@ -7,7 +7,7 @@ use native.Mathlib.Numerals.{add-one}
 use native.Mathlib.Omega.{arith}
 use lib.ListN.{length, getD, take, drop, set, length-drop, length-set}
 use lib.Seq.{length-take-le, getD-drop, paste, paste-zero, paste-suc}
-use Rattle.pieces.specs.Written.{put-at}
+use Rattle.kinds.specs.Written.{put-at}
 
 -- at the head of the loop
 pub record Copying (text out₀ : List ℕ) (put at len : ℕ) (out : List ℕ) (done : ℕ) : Type 0 where

@@ -1,4 +1,3 @@
 pub mod Copying
 pub mod Numbered
 pub mod Pieces
-pub mod Putting

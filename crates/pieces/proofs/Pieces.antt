@@ -9,7 +9,8 @@ use lib.ListN.{length, take, drop, set, length-drop}
 use lib.Seq.{length-take-le, append-snoc, set-split}
 use Rattle.kinds.specs.declared.Token.{Token as TextToken}
 use Rattle.plan.specs.Pieces.{Piece as PlanPiece, piece-print}
-use Rattle.pieces.specs.Written.{Is, is-operator, is-token, is-open, is-close, piece-bytes, piece-length, InText, put-at}
+use Rattle.kinds.specs.Written.{put-at}
+use Rattle.pieces.specs.Written.{Is, is-operator, is-token, is-open, is-close, piece-bytes, piece-length, InText}
 use Rattle.pieces.specs.declared.Piece.{Piece}
 use Rattle.pieces.specs.declared.Piece.the-variants.{Operator, Token, Open, Close}
 

@@ -1,4 +1,4 @@
--- What a piece of the code is: a piece of a plan, whose token stands in the text. And an output with bytes in it.
+-- What a piece of the code is: a piece of a plan, whose token stands in the text.
 use Prim.Native.Nat.{ℕ, _+_, _≤_}
 use mathlib.Core.Path.{_≡_}
 use mathlib.Core.List.{List, [], _∷_, _++_}
@@ -39,11 +39,3 @@ InText text (Operator o) = Unit {0}
 InText text (Token k) = k .at .0 + k .len ≤ length text
 InText text Open = Unit {0}
 InText text Close = Unit {0}
-
--- the output with bytes in it from a place on
-abbrev pub put-at : (out : List ℕ) → (put : ℕ) → List ℕ → List ℕ
-put-at out put bytes = take put out ++ bytes ++ drop (put + length bytes) out
-
--- the output with a text in its front
-abbrev pub written : List ℕ → List ℕ → List ℕ
-written t out = t ++ drop (length t) out

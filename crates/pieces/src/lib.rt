@@ -3,7 +3,8 @@
 ghost use mathlib.Core.Path.{_≡_};
 ghost use Prim.Native.Nat.{_+_, _≤_};
 ghost use lib.ListN.{length, take, drop};
-ghost use Rattle.pieces.specs.Written.{piece-length, piece-bytes, put-at, InText};
+ghost use Rattle.kinds.specs.Written.{put-at};
+ghost use Rattle.pieces.specs.Written.{piece-length, piece-bytes, InText};
 use kinds::Token;
 use plan::Operator;
 

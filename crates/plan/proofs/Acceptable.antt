@@ -17,7 +17,7 @@ use Rattle.plan.specs.Token.{Allowed}
 use Rattle.plan.proofs.Accepting.{accepted-text, accepts}
 use Rattle.plan.proofs.ReadBack.{read-accepted}
 use Rattle.plan.proofs.Refusals.{read-faultless}
-use Rattle.plan.proofs.Tests.{false-is-not-true}
+use Rattle.kinds.proofs.Tests.{false-is-not-true}
 
 module _ (lim : Limits) (n : ℕ) (text : List ℕ) {p : Plan ℕ} where
   -- a text that is accepted where n cells are lent is within its limit and reads as its plan, which has n cells at most;

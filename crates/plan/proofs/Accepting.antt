@@ -20,7 +20,7 @@ use Rattle.plan.specs.Refusals.{Unreadable, bad-text, too-long}
 use Rattle.plan.specs.Token.{Allowed}
 use Rattle.plan.proofs.ReadBack.{print-bound, read-print}
 use Rattle.plan.proofs.Refusals.{fit-accepted, refused-row, row-refused, unread-injective}
-use Rattle.plan.proofs.Tests.{never}
+use Rattle.kinds.proofs.Tests.{never}
 
 module _ (lim : Limits) (text : List ℕ) where
   pub text-too-long : lim .text < length text → read-text lim text ≡ FAULT TooLong

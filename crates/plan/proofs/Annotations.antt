@@ -16,7 +16,7 @@ use Rattle.plan.proofs.MayHold.{opening}
 use Rattle.plan.proofs.ReadBack.{cells-placed, print-placed, read-accepted}
 use Rattle.plan.proofs.Accepting.{Roomy, accepted-text, print-accepted}
 use Rattle.plan.proofs.Taken.{byte-not-held, permitted-taken}
-use Rattle.plan.proofs.Tests.{false-is-not-true}
+use Rattle.kinds.proofs.Tests.{false-is-not-true}
 use Rattle.plan.proofs.Tokens.{allowed-parts, annotation-of}
 
 -- no `{` is followed by a `&`, byte by byte

@@ -7,7 +7,7 @@ use lib.Dec.{T, T-not, eqb, eqb-refl}
 use borrow.Author.Tests.{eqb-true, eqb-false, ne-eqb}
 use Rattle.plan.specs.Plan.{Operator, op-a, op-b, op-c, op-d, letter, open-bracket, close-bracket, open-brace}
 use Rattle.plan.specs.Reading.{Class, OPERATOR, OPEN, CLOSE, BRACE, BLANK, BAD, class, Byte}
-use Rattle.plan.proofs.Tests.{cond-cases}
+use Rattle.kinds.proofs.Tests.{cond-cases}
 
 pub class-byte : (b : ℕ) → Byte (class b) b
 unfolding class letter

@@ -14,7 +14,7 @@ use Rattle.plan.specs.Reading.{BRACE, BLANK, Region, OUTSIDE, IN-TOKEN, 
 use Rattle.plan.specs.Refusals.{Faultless, nothing, a-mark, an-operator, a-token, opens, closes}
 use Rattle.plan.proofs.Marks.{kept, mark-dropped, token-kept}
 use Rattle.plan.proofs.Classes.{clash}
-use Rattle.plan.proofs.Tests.{cond-cases}
+use Rattle.kinds.proofs.Tests.{cond-cases}
 
 pub faultless-then : {limit d e f j k : ℕ} {xs ys : List ℕ} → Faultless limit d xs e j → Faultless limit e ys f k
     → Faultless limit d (xs ++ ys) f (j + k)

@@ -13,7 +13,7 @@ pub mod Reached
 pub mod ReadBack
 pub mod Refusals
 pub mod Taken
-pub mod Tests
 pub mod TokenFaults
 pub mod Tokens
 pub mod Utf8
+pub mod Worked

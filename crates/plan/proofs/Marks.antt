@@ -10,7 +10,7 @@ use Rattle.plan.specs.Token.{Name, annotation}
 use Rattle.plan.specs.Reading.{Class, OPERATOR, OPEN, CLOSE, BRACE, BLANK, BAD, Mark, blank, an-annotation, OUTSIDE, IN-TOKEN, IN-ANNOTATION, class, enter, leave, mark, without-marks}
 use Rattle.plan.specs.Refusals.{Begins}
 use Rattle.plan.proofs.Classes.{class-byte, clash, not-brace}
-use Rattle.plan.proofs.Tests.{false-is-not-true}
+use Rattle.kinds.proofs.Tests.{false-is-not-true}
 use Rattle.plan.proofs.Tokens.{NoBrace, allowed-no-brace, annotation-of}
 
 -- what begins with another byte than a `{` or a blank is no mark

@@ -4,7 +4,7 @@ use mathlib.Core.Logic.{_↔_, _⊎_, ⊎-elim}
 use mathlib.Core.Bool.{true}
 use mathlib.Core.Option.{Option, none, some, IsSome}
 use Rattle.plan.specs.Options.{_else_, is-none, under}
-use Rattle.plan.proofs.Tests.{false-is-not-true, never}
+use Rattle.kinds.proofs.Tests.{false-is-not-true, never}
 
 -- what holds of the value, if there is one
 abbrev pub Each : {A : Type 0} → (A → Type 0) → Option A → Type 0

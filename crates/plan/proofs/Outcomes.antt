@@ -6,7 +6,7 @@ use lib.ListN.{length, drop}
 use lib.Dec.{leb}
 use borrow.Author.Tests.{le-leb, lt-leb, leb-true, leb-false}
 use Rattle.plan.specs.Outcomes.{Family, GIVES, Outcome, REFUSES, Written, Wrote, write}
-use Rattle.plan.proofs.Tests.{cond-cases}
+use Rattle.kinds.proofs.Tests.{cond-cases}
 
 module _ {R G A : Type 0} (f : Family R G A) where
   module _ (g : G) (cells : ℕ) (text out : List ℕ) where

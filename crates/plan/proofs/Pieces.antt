@@ -13,7 +13,7 @@ use Rattle.plan.specs.Pieces.{Piece, OP, TOKEN, BEGIN, END, pieces, piec
 use Rattle.plan.proofs.Marks.{kept, mark-begins-none, mark-dropped, token-kept}
 use Rattle.plan.proofs.Classes.{class-byte, clash}
 use Rattle.plan.proofs.Plans.{length-labels}
-use Rattle.plan.proofs.Tests.{never}
+use Rattle.kinds.proofs.Tests.{never}
 
 module _ {L : Type 0} where
   pub row-append : (ps qs : List (Piece L)) → in-a-row (ps ++ qs) ≡ in-a-row ps ++ in-a-row qs

@@ -21,6 +21,7 @@ use Rattle.plan.specs.Reading.{Around, outermost, inside, Class, OPERATO
 use Rattle.plan.specs.Refusals.{Faultless, nothing, a-mark, an-operator, a-token, opens, closes, Fault, bad-byte, bad-token, unmatched, Begins, Faulty, fault, unclosed, Row, faulty, overfull}
 use Rattle.plan.proofs.Options.{Each}
 use Rattle.plan.proofs.Plans.{length-labels}
+use Rattle.kinds.proofs.Tests.{never}
 use Rattle.plan.proofs.TokenFaults.{fault-no-token, first-met, met-first}
 use Rattle.plan.proofs.Tokens.{annotation-of, token-text-finds}
 use Rattle.plan.specs.Pieces.{Found, pieces, starts, so-far}
@@ -242,7 +243,7 @@ pub unread-injective : {u v : Unread} → UNREAD u ≡ UNREAD v → u ≡ v
 unread-injective e = cc
 
 pub accepted-is-not-unread : {A : Type 0} {p : Plan ℕ} {u : Unread} → ACCEPTED p ≡ UNREAD u → A
-accepted-is-not-unread e = absurd (let z : _≡_ {A = ℕ} 0 1 = cc in omega arith)
+accepted-is-not-unread e = never cc
 
 -- a text that reads has no fault, and each of its items a byte
 pub plan-faultless : (limit : ℕ) (text : List ℕ) {p : Plan ℕ} → read-from limit 0 0 outermost end text ≡ PLAN p → Faultless limit 0 text 0 (cells p)

@@ -13,7 +13,7 @@ use lib.Seq.{getD-append-add, length-take-le}
 use borrow.Author.Tests.{le-leb}
 use Rattle.plan.specs.declared.Character.the-variants.{Whole}
 use Rattle.plan.specs.Token.{character, may-hold, permits, all-permitted, allowed}
-use Rattle.plan.proofs.Tests.{false-is-not-true}
+use Rattle.kinds.proofs.Tests.{false-is-not-true}
 use Rattle.plan.proofs.Tokens.{permits-parts}
 use Rattle.plan.proofs.Utf8.{character-bytes, character-frame, character-one, character-width}
 

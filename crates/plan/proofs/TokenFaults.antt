@@ -23,7 +23,7 @@ use Rattle.plan.specs.TokenFaults.{NoneBefore, CharacterAt, first, behin
 use Rattle.plan.specs.Pieces.{Found}
 use Rattle.plan.proofs.MayHold.{beyond, closing, control, late-control, opening, printing, replacement}
 use Rattle.plan.proofs.Options.{Each, some-is-not-none}
-use Rattle.plan.proofs.Tests.{false-is-not-true, never}
+use Rattle.kinds.proofs.Tests.{false-is-not-true, never}
 use Rattle.plan.proofs.Tokens.{allowed-parts, token-text-at, token-text-finds}
 use Rattle.plan.proofs.Taken.{Taken, none-yet, further, byte-not-held, extended, permitted-taken, scanned-allowed, scanned-step}
 use Rattle.plan.proofs.Utf8.{character-bytes, character-high, character-low, character-one, character-width}

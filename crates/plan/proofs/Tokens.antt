@@ -17,7 +17,7 @@ use Rattle.plan.specs.Token.{annotation, character, may-hold, permits, a
 use Rattle.plan.specs.Pieces.{Found}
 use Rattle.plan.proofs.MayHold.{closing}
 use Rattle.plan.proofs.Options.{Each, under-each}
-use Rattle.plan.proofs.Tests.{cond-cases, and-true, false-is-not-true}
+use Rattle.kinds.proofs.Tests.{cond-cases, and-true, false-is-not-true}
 use Rattle.plan.proofs.Utf8.{character-bytes, character-one}
 
 abbrev pub NoBrace : List ℕ → Type 0

@@ -16,7 +16,7 @@ use Rattle.plan.specs.Read.{acceptable}
 use Rattle.plan.specs.Reading.{ACCEPTED, Acceptance, FAULT, PLAN, Reading, UNREAD, accept, fit, place-of-item, plan-of, read-bytes, read-text}
 use Rattle.plan.proofs.Acceptable.{accepted-acceptable, accepted-plan, refused-unacceptable}
 use Rattle.plan.proofs.Accepting.{text-short, text-too-long}
-use Rattle.plan.proofs.Tests.{never}
+use Rattle.kinds.proofs.Tests.{never}
 use Rattle.reader.specs.Counting.{surveyed}
 use Rattle.reader.specs.declared.Surveyed.{Surveyed}
 use Rattle.reader.specs.declared.Surveyed.the-variants.{Counted, Faulty}

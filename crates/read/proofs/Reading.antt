@@ -16,8 +16,8 @@ use Rattle.plan.specs.Reading.{accept}
 use Rattle.plan.proofs.Accepting.{accepted-text}
 use Rattle.plan.proofs.Outcomes.{wrote-fits, wrote-refused, wrote-short}
 use Rattle.plan.proofs.ReadBack.{read-accepted}
-use Rattle.pieces.specs.Written.{put-at}
-use Rattle.pieces.proofs.Putting.{put-front}
+use Rattle.kinds.specs.Written.{put-at}
+use Rattle.kinds.proofs.Putting.{put-front}
 use Rattle.items.specs.Walk.{Tidyable}
 use Rattle.read.specs.Accepted.{accepted-as}
 use Rattle.read.specs.Calls.{ReadsOut}

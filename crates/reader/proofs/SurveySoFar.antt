@@ -27,6 +27,7 @@ use Rattle.plan.proofs.Faultless.{take-one, faultless-then, marks-then, faultle
 use Rattle.plan.proofs.Reached.{text-read}
 use Rattle.plan.proofs.Refusals.{faulty-read, item-place}
 use Rattle.plan.proofs.Plans.{length-labels}
+use Rattle.kinds.proofs.Tests.{never}
 use Rattle.reader.specs.Counting.{Small, nothing-yet, one-item, closed, stepped, finished, surveyed}
 use Rattle.reader.specs.declared.Count.{Count}
 use Rattle.reader.specs.declared.ByteStep.the-variants.{On, Token, Stop}
@@ -142,13 +143,13 @@ stop-injective : {r s : TextFault} → Stop r ≡ Stop s → r ≡ s
 stop-injective e = cc
 
 stop-is-not-on : {A : Type 0} {r : TextFault} {n : Count} → Stop r ≡ On n → A
-stop-is-not-on e = absurd (let z : _≡_ {A = ℕ} 0 1 = cc in omega arith)
+stop-is-not-on e = never cc
 
 pub token-is-not-on : {A : Type 0} {n : Count} → Token ≡ On n → A
-token-is-not-on e = absurd (let z : _≡_ {A = ℕ} 0 1 = cc in omega arith)
+token-is-not-on e = never cc
 
 pub token-is-not-stop : {A : Type 0} {r : TextFault} → Token ≡ Stop r → A
-token-is-not-stop e = absurd (let z : _≡_ {A = ℕ} 0 1 = cc in omega arith)
+token-is-not-stop e = never cc
 
 -- the byte at the place
 module _ {text : List ℕ} {room at : ℕ} {n : Count} (g : SurveySoFar text room n at) (inside : at < length text) where

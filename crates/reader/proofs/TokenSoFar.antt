@@ -30,7 +30,7 @@ use Rattle.plan.proofs.Marks.{token-kept}
 use Rattle.plan.proofs.MayHold.{opening}
 use Rattle.plan.proofs.Taken.{Taken, none-yet, scanned-step, scanned-allowed}
 use Rattle.plan.proofs.TokenFaults.{ends-first, forbidden-unheld, low-byte, malformed-first, nothing-first, open-unheld, over-first, reaching-first, unheld-first}
-use Rattle.plan.proofs.Tests.{never}
+use Rattle.kinds.proofs.Tests.{never}
 use Rattle.plan.proofs.Tokens.{annotation-of}
 use Rattle.plan.proofs.Utf8.{character-width}
 use Rattle.text.specs.TokenEnds.{TokenEnds}

@@ -10,7 +10,7 @@ use Rattle.plan.specs.declared.Operator.{Operator}
 use Rattle.plan.specs.declared.Operator.the-variants.{A as op-a, B as op-b, C as op-c, D as op-d}
 use Rattle.plan.proofs.Plans.{then-assoc}
 use Rattle.memory.specs.Held.{HeldIn, HeldAlike, held-numbers}
-use Rattle.memory.specs.Memory.{start, close, Below, Holds}
+use Rattle.memory.specs.Memory.{Below, Holds}
 use Rattle.memory.specs.Model.{Lent}
 use Rattle.memory.specs.declared.Held.{Held}
 use Rattle.memory.proofs.Lists.{below-split}
@@ -18,7 +18,7 @@ use Rattle.hunt.specs.Hunting.{RuleAt}
 use Rattle.hunt.specs.declared.Spot.{Spot}
 use Rattle.hunt.proofs.Window.{stands-rule}
 use Rattle.rewrites.specs.Rules.{DropBlock, OneBlock, Rewrites, RuleA, RuleB, RuleC, RuleD, TwoBlocks, at-end}
-use Rattle.rewrites.specs.Splices.{Spliced, cut, released}
+use Rattle.rewrites.specs.Splices.{OperatorOut}
 use Rattle.rewrites.proofs.Chained.{held-after, same-cells, spliced-lent}
 use Rattle.rewrites.proofs.Gaps.{gap}
 use Rattle.rewrites.proofs.Moving.{held-said, said-below}
@@ -65,8 +65,7 @@ module _ {text m : List ℕ} {h : Held} {spot : Spot} {f : Frame ℕ} {q q′ : 
       operator-low text (h .outer .0) (held-numbers m h) (h .free .0) f (before k) (spot .newer .0) (k .newer) (spot .operator .0) (spot .which) p (here k)
 
   -- once the operator is out, what its rule asks for is there, and what the rule makes of it is the rewrite
-  module _ {m₁ : List ℕ} {h₁ : Held}
-      (s : Spliced m h m₁ h₁ (released (cut (held-numbers m h) (close (spot .newer .0)) (start (spot .operator .0))) (h .free .0) (spot .operator .0)) (spot .operator .0)) where
+  module _ {m₁ : List ℕ} {h₁ : Held} (s : OperatorOut m h m₁ h₁ (spot .newer .0) (spot .operator .0)) where
     out : {o : Operator} (k : RuleAt spot o X p q q′) → HeldIn text m₁ h₁ (plug f (X then (lead o (spot .older .0) (k .older) then block (spot .newer .0) (k .newer) p)))
     unfolding before
     out {o} k =

@@ -11,17 +11,17 @@ use Rattle.plan.specs.Plan.{Plan, end, block, _then_, cells, labels}
 use Rattle.rules.proofs.Frames.{cells-plug}
 use Rattle.plan.proofs.Plans.{cells-then, then-end}
 use Rattle.memory.specs.Held.{HeldIn, held-numbers}
-use Rattle.memory.specs.Memory.{start, close, ports, whole, Holds, last-of}
+use Rattle.memory.specs.Memory.{start, close, ports, Holds, last-of}
 use Rattle.memory.specs.Model.{Aside, Lent}
 use Rattle.memory.specs.declared.Held.{Held}
 use Rattle.memory.proofs.Lists.{below-split}
 use Rattle.memory.proofs.Whole.{aside-on, lent-kept}
-use Rattle.blocks.specs.Blocks.{Alone, Leaves, first-free, freed}
+use Rattle.blocks.specs.Blocks.{Alone, BlockFreed, Leaves, first-free, freed}
 use Rattle.blocks.proofs.LinkedBlock.{block-alone}
 use Rattle.copier.specs.Copying.{Copies, Copyable, CopyMade}
 use Rattle.copier.specs.declared.Copied.{Copied}
 use Rattle.rewrites.specs.Rules.{DropBlock, OneBlock, RuleA, RuleB, RuleC, RuleD, TwoBlocks, at-end}
-use Rattle.rewrites.specs.Splices.{Spliced, cut, moved, put-in, unwrapped}
+use Rattle.rewrites.specs.Splices.{BlockOpened, Spliced, cut, moved, put-in, unwrapped}
 use Rattle.rewrites.proofs.Chained.{held-after, same-cells, splice-two, spliced-lent}
 use Rattle.rewrites.proofs.Moving.{end-low, held-said}
 use Rattle.rewrites.proofs.Ruling.{applied, block-then, doubled, dropped, enclosed, out-alone, there}
@@ -78,7 +78,7 @@ module _ {m : List ℕ} {h : Held} {m′ : List ℕ} {h′ : Held} (before older
   pub rule-a-holds : {m₁ : List ℕ} {h₁ : Held} (last tail : ℕ)
       → ((b : Plan ℕ) → Alone (h .outer .0) (held-numbers m h) newer b → last ≡ last-of (start newer) (ports b)) → tail ≡ close older
       → Spliced m h m₁ h₁ (moved (held-numbers m h) before older last) (h .free .0)
-      → Spliced m₁ h₁ m′ h′ (unwrapped (held-numbers m₁ h₁) (h₁ .free .0) before newer tail) newer → RuleA m h m′ h′ before older newer
+      → BlockOpened m₁ h₁ m′ h′ before newer tail → RuleA m h m′ h′ before older newer
   rule-a-holds {m₁} {h₁} last tail ends e s u text f X B A p at held =
       let both = splice-two s (λ w. unwrapped w (h .free .0) before newer tail) u (ap (λ x. unwrapped (held-numbers m₁ h₁) x before newer tail) (s .free)) in
       let w = held-numbers m h in
@@ -173,10 +173,7 @@ module _ {m : List ℕ} {h : Held} (before newer tail : ℕ) {m₁ : List ℕ} {
   drop-leaves k =
       record { lent = spliced-lent s (k .lent); contents = k .contents; alone = out-there (k .text) (k .frame) (k .front) (k .contents) (k .behind) (k .at) (k .held) }
 
-  pub rule-d-holds : (m′ : List ℕ) (free : Cell)
-      → ((b : Plan ℕ) → Alone (h₁ .outer .0) (held-numbers m₁ h₁) newer b
-      → (whole (h₁ .outer .0) m′ (h₁ .first .0) ≡ freed (held-numbers m₁ h₁) (h₁ .free .0) (newer ∷ labels b))
-      × (free .0 ≡ first-free (h₁ .free .0) (newer ∷ labels b)))
+  pub rule-d-holds : (m′ : List ℕ) (free : Cell) → BlockFreed (h₁ .outer .0) m₁ (h₁ .first .0) (h₁ .free .0) newer m′ (free .0)
       → RuleD m h m′ (record { outer = h₁ .outer; first = h₁ .first; free = free }) before newer
   rule-d-holds m′ free frees text f X A p at held =
       let done = frees A (out-there text f X A p at held) in
@@ -184,5 +181,5 @@ module _ {m : List ℕ} {h : Held} (before newer tail : ℕ) {m₁ : List ℕ} {
       let w = held-numbers m h in
       let is-cut : held-numbers m₁ h₁ ≡ cut w (at-end (h .outer .0) f X) (close newer) = s .numbers ∙ ap₂ (cut w) at e in
       subst₂ (λ v x. Holds text (h₁ .outer .0) v x (plug f (X then p)))
-      (sym (done .0 ∙ ap₂ (λ v y. freed v y cs) is-cut (s .free))) (sym (done .1 ∙ ap (λ y. first-free y cs) (s .free)))
+      (sym (done .numbers ∙ ap₂ (λ v y. freed v y cs) is-cut (s .free))) (sym (done .frees ∙ ap (λ y. first-free y cs) (s .free)))
       (rw (same-cells s) (dropped (h .outer .0) f X newer A p held))

@@ -84,3 +84,7 @@ pub record Rewritable (text m : List ℕ) (h : Held) (spot : Spot) : Type 0 wher
   pub before : Plan ℕ
   pub after : Plan ℕ
   pub rewrites : Rewrites text m h spot frame before after
+
+-- the memory holds what the rewrite at the spot gives, wherever the spot stood
+abbrev pub RewriteMade : (text m : List ℕ) → Held → Spot → (m′ : List ℕ) → Held → Type 0
+RewriteMade text m h spot m′ h′ = (f : Frame ℕ) (q q′ : Plan ℕ) → Rewrites text m h spot f q q′ → HeldAlike text m′ h′ (plug f q′)

@@ -36,3 +36,12 @@ pub record Spliced (m : List ℕ) (h : Held) (m′ : List ℕ) (h′ : Held) (v 
   pub free : h′ .free .0 ≡ spare
   pub outer : h′ .outer ≡ h .outer
   pub aside : Aside (h .outer .0) m m′
+
+-- the operator behind the block at the cell `newer` is out of the chain, and its cell is the first free one
+abbrev pub OperatorOut : (m : List ℕ) → Held → (m′ : List ℕ) → Held → (newer operator : ℕ) → Type 0
+OperatorOut m h m′ h′ newer operator =
+    Spliced m h m′ h′ (released (cut (held-numbers m h) (close newer) (start operator)) (h .free .0) operator) operator
+
+-- the contents of the block at the cell c stand in its place, and its cell is the first free one
+abbrev pub BlockOpened : (m : List ℕ) → Held → (m′ : List ℕ) → Held → (before c last : ℕ) → Type 0
+BlockOpened m h m′ h′ before c last = Spliced m h m′ h′ (unwrapped (held-numbers m h) (h .free .0) before c last) c

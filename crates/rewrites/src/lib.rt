@@ -2,14 +2,12 @@
 // the newer one and opens that, b moves the older block to the front of the newer one, c copies, d drops. Only links move: no
 // item is copied but by c, and a cell that leaves the plan is free at once.
 ghost use mathlib.Core.Path.{_≡_};
-ghost use Prim.Native.Nat.{ℕ, _≤_, _<_};
-ghost use Rattle.rules.specs.Frames.{Frame, plug};
-ghost use Rattle.plan.specs.Plan.{Plan};
-ghost use Rattle.memory.specs.Held.{HeldAlike, held-numbers};
-ghost use Rattle.memory.specs.Memory.{start, close};
+ghost use Prim.Native.Nat.{_≤_, _<_};
+ghost use Rattle.memory.specs.Held.{held-numbers};
+ghost use Rattle.memory.specs.Memory.{start};
 ghost use Rattle.memory.specs.Model.{Aside, Lent};
-ghost use Rattle.rewrites.specs.Splices.{Spliced, cut, moved, put-in, released, unwrapped};
-ghost use Rattle.rewrites.specs.Rules.{DropBlock, OneBlock, Rewritable, Rewrites, RuleA, RuleB, RuleC, RuleD, TwoBlocks};
+ghost use Rattle.rewrites.specs.Splices.{BlockOpened, OperatorOut, Spliced, cut, moved, put-in, released};
+ghost use Rattle.rewrites.specs.Rules.{DropBlock, OneBlock, Rewritable, RewriteMade, RuleA, RuleB, RuleC, RuleD, TwoBlocks};
 use blocks::free_block;
 use blocks::last_port;
 use copier::copy_block;
@@ -79,7 +77,7 @@ fn release(memory: &mut [u32], held: Held, cell: Cell) -> Held
 // Takes an operator out of the plan, from behind the block before it.
 fn remove_operator(memory: &mut [u32], held: Held, newer: Cell, operator: Cell) -> Held
     requires { ⌜ Lent (held .outer .0) (now memory) × (newer .0 < held .outer .0) × (operator .0 < held .outer .0) ⌝ }
-    ensures { λ r. ⌜ Spliced (now (memory .entry)) held (now (memory .exit)) r (released (cut (held-numbers (now (memory .entry)) held) (close (newer .0)) (start (operator .0))) (held .free .0) (operator .0)) (operator .0) ⌝ }
+    ensures { λ r. ⌜ OperatorOut (now (memory .entry)) held (now (memory .exit)) r (newer .0) (operator .0) ⌝ }
 {
     let out = cut(memory, held, Port::close(newer), Port::start(operator));
     release(memory, out, operator)
@@ -88,7 +86,7 @@ fn remove_operator(memory: &mut [u32], held: Held, newer: Cell, operator: Cell) 
 // Opens a block: its contents, which end at the port `last`, stand in its place.
 fn unwrap(memory: &mut [u32], held: Held, before: Port, block: Cell, last: Port) -> Held
     requires { ⌜ Lent (held .outer .0) (now memory) × (before .0 ≤ start (held .outer .0)) × (last .0 ≤ start (held .outer .0)) × (block .0 < held .outer .0) ⌝ }
-    ensures { λ r. ⌜ Spliced (now (memory .entry)) held (now (memory .exit)) r (unwrapped (held-numbers (now (memory .entry)) held) (held .free .0) (before .0) (block .0) (last .0)) (block .0) ⌝ }
+    ensures { λ r. ⌜ BlockOpened (now (memory .entry)) held (now (memory .exit)) r (before .0) (block .0) (last .0) ⌝ }
 {
     let ended = cut(memory, held, last, Port::close(block));
     let begun = cut(memory, ended, before, Port::start(block));
@@ -156,7 +154,7 @@ fn rule_d(memory: &mut [u32], held: Held, before: Port, newer: Cell) -> Held
 // Makes the rewrite of a ready operator: the memory then holds what the rule gives.
 pub fn rewrite(text: &[u8], memory: &mut [u32], held: Held, spot: Spot) -> Held
     requires { ⌜ Rewritable (now text) (now memory) held spot ⌝ }
-    ensures rewritten { λ r. ⌜ ((f : Frame ℕ) (q q′ : Plan ℕ) → Rewrites (now (text .entry)) (now (memory .entry)) held spot f q q′ → HeldAlike (now (text .entry)) (now (memory .exit)) r (plug f q′)) ⌝ }
+    ensures rewritten { λ r. ⌜ RewriteMade (now (text .entry)) (now (memory .entry)) held spot (now (memory .exit)) r ⌝ }
     ensures same_cells { λ r. ⌜ r .outer ≡ held .outer ⌝ }
     ensures aside { λ r. ⌜ Aside (held .outer .0) (now (memory .entry)) (now (memory .exit)) ⌝ }
 {

@@ -2,7 +2,7 @@
 use Prim.Native.Nat.{ℕ, suc, _+_, _-_, _≤_, _<_}
 use mathlib.Core.Path.{_≡_, refl, ap, ap₂, sym, subst, _∙_}
 use mathlib.Core.Logic.{_≢_}
-use mathlib.Core.List.{List, [], _∷_, _++_, append-assoc, append-nil}
+use mathlib.Core.List.{List, [], _∷_, _++_, append-assoc}
 use native.Mathlib.Omega.{arith}
 use lib.ListN.{length, drop, getD, set, length-append, length-drop}
 use lib.Seq.{drop-cons, set-at}
@@ -12,8 +12,8 @@ use Rattle.entries.proofs.Parts.{entry-tells}
 use Rattle.filing.specs.Answers.{longest, places}
 use Rattle.filing.specs.Format.{Entry}
 use Rattle.filing.specs.EntriesStand.{EntriesStand}
-use Rattle.filing.proofs.NextEntry.{NextEntry, next-entry, no-next-entry}
-use Rattle.filing.proofs.Format.{stands-within}
+use Rattle.filing.proofs.NextEntry.{NextEntry, next-entry, stand-once}
+use Rattle.filing.proofs.Format.{stands-on, stands-within}
 use Rattle.roll.specs.Judging.{Fillable, filled}
 
 places-append : (es fs : List Entry) → places (es ++ fs) ≡ places es ++ places fs
@@ -39,76 +39,64 @@ filled-on gone e list h =
     ∙ ap₂ _++_ (sym (places-append gone (e ∷ []))) (ap (λ k. drop k list) many)
 
 pub record FilledSoFar (bytes : List ℕ) (end : ℕ) (list₀ list : List ℕ) (at put : ℕ) : Type 0 where
-  pub fillable : Fillable bytes end list₀
-  pub each : (es : List Entry) → EntriesStand bytes 1 es end
-      → (gone : List Entry) × (come : List Entry) × EntriesStand bytes at come end × (es ≡ gone ++ come) × (list ≡ filled gone list₀) × (put ≡ length gone)
+  pub gone : List Entry
+  pub come : List Entry
+  pub passed : EntriesStand bytes 1 gone at
+  pub ahead : EntriesStand bytes at come end
+  pub short : length bytes ≤ longest
+  pub room : length gone + length come ≤ length list₀
+  pub told : list ≡ filled gone list₀
+  pub count : put ≡ length gone
 
 pub filled-first : {bytes : List ℕ} {end : ℕ} {list : List ℕ} → Fillable bytes end list → FilledSoFar bytes end list list 1 0
 unfolding places
-filled-first f = record { fillable = f; each = λ es s. ([], es, s, refl, refl, refl) }
+filled-first f =
+    record { gone = []; come = f .es; passed = refl; ahead = f .stand; short = f .short; room = omega (arith, f .room); told = refl; count = refl }
 
 module _ {bytes : List ℕ} {end : ℕ} {list₀ list : List ℕ} {at put : ℕ} (f : FilledSoFar bytes end list₀ list at put) where
   pub filled-long : length list ≡ length list₀
   filled-long =
-      let g = f .fillable in
-      let (gone, come, stand, parts, told, here) = f .each (g .es) (g .stand) in
-      let few : length gone ≤ length list₀ = omega (arith, g .room, ap length parts, length-append gone come) in
-      ap length told ∙ omega (arith, length-append (places gone) (drop (length gone) list₀), places-many gone, drop-size (length gone) list₀ few)
+      let few : length (f .gone) ≤ length list₀ = omega (arith, f .room) in
+      ap length (f .told) ∙ omega (arith, length-append (places (f .gone)) (drop (length (f .gone)) list₀), places-many (f .gone), drop-size (length (f .gone)) list₀ few)
     where
       drop-size : (k : ℕ) (l : List ℕ) → k ≤ length l → length (drop k l) + k ≡ length l
       drop-size k l h = omega (arith, length-drop k l)
 
   pub filled-end : at ≡ end → (es : List Entry) → EntriesStand bytes 1 es end → list ≡ filled es list₀
-  filled-end e es s =
-      let (gone, come, stand, parts, told, here) = f .each es s in
-      told ∙ ap (λ x. filled x list₀) (sym (parts ∙ ap (gone ++_) (no-next-entry bytes at end e come stand) ∙ append-nil gone))
+  filled-end e es s = f .told ∙ ap (λ x. filled x list₀) (stand-once bytes 1 end (f .gone) es (subst (EntriesStand bytes 1 (f .gone)) e (f .passed)) s)
 
   module _ (more : at ≢ end) where
-    record Here : Type 0 where
-      gone : List Entry
-      come : List Entry
-      it : NextEntry bytes at end come
-      all : f .fillable .es ≡ gone ++ come
-      count : put ≡ length gone
+    here : NextEntry bytes at end (f .come)
+    here = next-entry bytes at end more (f .come) (f .ahead)
 
-    here : Here
-    here =
-        let g = f .fillable in
-        let (gone, come, stand, parts, told, many) = f .each (g .es) (g .stand) in
-        record { gone = gone; come = come; it = next-entry bytes at end more come stand; all = parts; count = many }
+    one-left : length (f .gone) + 1 + length (here .others) ≤ length list₀
+    one-left = omega (arith, f .room, ap length (here .parts))
 
     pub filled-room : put < length list
-    filled-room =
-        let h = here in
-        omega (arith, filled-long, h .count, f .fillable .room, ap length (h .all), length-append (h .gone) (h .come), ap length (h .it .parts))
+    filled-room = omega (arith, filled-long, f .count, one-left)
 
     pub filled-small : at < longest
-    filled-small = let h = here in omega (arith, h .it .low, h .it .high, f .fillable .short)
+    filled-small = omega (arith, here .low, here .high, f .short)
 
-    behind : (come : List Entry) (a : NextEntry bytes at end come) (x : EntryAt) (next : ℕ) → x ≡ entry-at bytes at → next ≡ next-told x end → next ≡ a .next
-    behind come a x next is there =
-        there ∙ ap (λ (y : EntryAt). next-told y end) is ∙ entry-tells bytes at (a .next) (a .high) (a .first .parts) (a .whole) .behind end
+    module _ (x : EntryAt) (next : ℕ) (is : x ≡ entry-at bytes at) (there : next ≡ next-told x end) where
+      far : next ≡ here .next
+      far = there ∙ ap (λ (y : EntryAt). next-told y end) is ∙ entry-tells bytes at (here .next) (here .high) (here .first .parts) (here .whole) .behind end
 
-    pub filled-less : (x : EntryAt) (next : ℕ) → x ≡ entry-at bytes at → next ≡ next-told x end → end - next < end - at
-    filled-less x next is there =
-        let h = here in
-        let far = behind (h .come) (h .it) x next is there in
-        omega (arith, far, h .it .low, stands-within bytes (h .it .next) end (h .it .others) (h .it .stand))
+      pub filled-less : end - next < end - at
+      filled-less = omega (arith, far, here .low, stands-within bytes (here .next) end (here .others) (here .stand))
 
-    pub filled-on-to : (x : EntryAt) (next : ℕ) (list′ : List ℕ) → x ≡ entry-at bytes at → next ≡ next-told x end → list′ ≡ set list put at
-        → FilledSoFar bytes end list₀ list′ next (put + 1)
-    filled-on-to x next list′ is there made =
-        record {
-          fillable = f .fillable;
-          each = λ es s.
-              let (gone, come, stand, parts, told, many) = f .each es s in
-              let a = next-entry bytes at end more come stand in
-              let room : length gone < length list₀ = omega (arith, many, filled-room, filled-long) in (
-                gone ++ a .first ∷ [],
-                a .others,
-                subst (λ k. EntriesStand bytes k (a .others) end) (sym (behind come a x next is there)) (a .stand),
-                parts ∙ ap (gone ++_) (a .parts) ∙ sym (append-assoc gone (a .first ∷ []) (a .others)),
-                made ∙ ap₂ (λ l k. set l k at) told many ∙ ap (set (filled gone list₀) (length gone)) (sym (a .place)) ∙ filled-on gone (a .first) list₀ room,
-                omega (arith, many, length-append gone (a .first ∷ [])),
-              );
-        }
+      pub filled-on-to : (list′ : List ℕ) → list′ ≡ set list put at → FilledSoFar bytes end list₀ list′ next (put + 1)
+      filled-on-to list′ made =
+          let e : Entry = record { place = at; parts = here .first .parts } in
+          let many : length (f .gone ++ e ∷ []) ≡ length (f .gone) + 1 = length-append (f .gone) (e ∷ []) in
+          let free : length (f .gone) < length list₀ = omega (arith, one-left) in
+          record {
+            gone = f .gone ++ e ∷ [];
+            come = here .others;
+            passed = subst (EntriesStand bytes 1 (f .gone ++ e ∷ [])) (sym far) (stands-on bytes 1 at (here .next) (f .gone) (f .passed) (here .whole) (here .low) (here .high));
+            ahead = subst (λ k. EntriesStand bytes k (here .others) end) (sym far) (here .stand);
+            short = f .short;
+            room = omega (arith, one-left, many);
+            told = made ∙ ap₂ (λ l k. set l k at) (f .told) (f .count) ∙ filled-on (f .gone) e list₀ free;
+            count = omega (arith, f .count, many);
+          }

@@ -2,14 +2,14 @@
 ghost use mathlib.Core.Path.{_≡_};
 ghost use mathlib.Core.List.{List};
 ghost use mathlib.Core.Option.{some};
-ghost use Prim.Native.Nat.{_≤_, _<_};
+ghost use Prim.Native.Nat.{_≤_};
 ghost use lib.ListN.{length, drop};
 ghost use Rattle.kinds.specs.Limits.{standard};
-ghost use Rattle.filing.specs.Format.{Entry, listing};
-ghost use Rattle.filing.specs.EntriesStand.{EntriesStand};
+ghost use Rattle.filing.specs.Format.{Entry, entry, listing};
+ghost use Rattle.filing.specs.EntriesStand.{Behind, EntriesStand, StandsBefore};
 ghost use Rattle.filing.specs.Answers.{by-rules, edition-1, judged, longest, one-entry};
 ghost use Rattle.roll.specs.Calls.{Lists};
-ghost use Rattle.roll.specs.Judging.{Fillable, filled, judgement, looked};
+ghost use Rattle.roll.specs.Judging.{Fillable, entry-judged, filled, judged-as};
 use entries::EntryAt;
 use entries::entry_at;
 use entries::next_of;
@@ -18,107 +18,88 @@ use filing::FIRST;
 use filing::LONGEST;
 use filing::RollAnswer;
 use filing::RollRefusal;
-use filing::grown;
+use filing::Sums;
+use stored::part;
 use weighing::Weighed;
 use weighing::weigh;
 
-// What the entries of a roll come to.
-pub enum Judgement {
-    Reads {
-        entries: u32,
-        filed: u32,
-        done: u32,
-        end: u32,
-    },
-    Breaks {
-        at: u32,
+pub enum JudgedEntry {
+    Torn,
+    Broken,
+    // Where the next entry would stand, and whether this one counts as a job filed, or done.
+    Fine {
+        next: usize,
+        filed: bool,
+        done: bool,
     },
 }
 
-// The same of a whole roll.
-pub enum LookedOver {
-    Reads {
-        entries: u32,
-        filed: u32,
-        done: u32,
-        end: u32,
-    },
-    Refused(RollRefusal),
+// The entry at a place, behind entries that obey the rules.
+fn judge_entry(roll: &[u8], at: usize) -> JudgedEntry
+    requires { ⌜ StandsBefore (now roll) at ⌝ }
+    ensures { λ r. ⌜ Behind (now (roll .entry)) at (λ past. r ≡ entry-judged past at (entry (drop at (now (roll .entry)))) (now (roll .entry))) ⌝ }
+{
+    match entry_at(roll, at) {
+        EntryAt::Torn => JudgedEntry::Torn,
+        EntryAt::Other { next } => JudgedEntry::Broken,
+        EntryAt::Known {
+            kind,
+            job,
+            text,
+            next,
+        } => match weigh(roll, at, kind, part(roll, job), part(roll, text)) {
+            Weighed::Faulty(why) => JudgedEntry::Broken,
+            Weighed::Fine { filed, done } => JudgedEntry::Fine { next, filed, done },
+        },
+    }
 }
 
 // Entry by entry, up to the first that is torn or breaks a rule.
-fn judge(roll: &[u8]) -> Judgement
+fn judge(roll: &[u8]) -> RollAnswer
     requires { ⌜ (1 ≤ length (now roll)) × (length (now roll) ≤ longest) ⌝ }
-    ensures { λ r. ⌜ r ≡ judgement (by-rules standard (some (listing 0 1 (drop 1 (now (roll .entry)))))) ⌝ }
+    ensures { λ r. ⌜ r ≡ judged-as (by-rules standard (some (listing 0 1 (drop 1 (now (roll .entry)))))) ⌝ }
 {
-    let mut at: usize = 1;
-    let mut entries: u32 = 0;
-    let mut filed: u32 = 0;
-    let mut done: u32 = 0;
+    let mut sums = Sums {
+        entries: 0,
+        filed: 0,
+        done: 0,
+        end: 1,
+    };
     loop {
-        match weigh(roll, at) {
-            Weighed::Torn => {
-                let end = at as u32;
-                return Judgement::Reads {
-                    entries,
-                    filed,
-                    done,
-                    end,
-                };
-            }
-            Weighed::Broken => {
-                let place = at as u32;
-                return Judgement::Breaks { at: place };
-            }
-            Weighed::Fine {
-                next,
-                filed: more_filed,
-                done: more_done,
-            } => {
-                entries += 1;
-                filed = grown(filed, more_filed);
-                done = grown(done, more_done);
-                at = next;
+        match judge_entry(roll, sums.end as usize) {
+            JudgedEntry::Torn => return RollAnswer::Listed(sums),
+            JudgedEntry::Broken => return RollAnswer::Refused(RollRefusal::BadRoll(sums.end)),
+            JudgedEntry::Fine { next, filed, done } => {
+                let end = next as u32;
+                sums = sums.with_entry(filed, done, end);
             }
         }
     }
 }
 
 // A roll of no bytes lists nothing; another first byte is refused.
-pub fn look_over(roll: &[u8]) -> LookedOver
-    ensures { λ r. ⌜ r ≡ looked (judged edition-1 (now (roll .entry))) ⌝ }
+pub fn look_over(roll: &[u8]) -> RollAnswer
+    ensures { λ r. ⌜ r ≡ judged-as (judged edition-1 (now (roll .entry))) ⌝ }
 {
     if LONGEST < roll.len() {
-        return LookedOver::Refused(RollRefusal::TooLong);
+        return RollAnswer::Refused(RollRefusal::TooLong);
     }
     if roll.len() == 0 {
-        return LookedOver::Reads {
+        return RollAnswer::Listed(Sums {
             entries: 0,
             filed: 0,
             done: 0,
             end: 0,
-        };
+        });
     }
     if roll[0] != FIRST {
-        return LookedOver::Refused(RollRefusal::BadRoll(0));
+        return RollAnswer::Refused(RollRefusal::BadRoll(0));
     }
-    match judge(roll) {
-        Judgement::Reads {
-            entries,
-            filed,
-            done,
-            end,
-        } => LookedOver::Reads {
-            entries,
-            filed,
-            done,
-            end,
-        },
-        Judgement::Breaks { at } => LookedOver::Refused(RollRefusal::BadRoll(at)),
-    }
+    judge(roll)
 }
 
-// The places of the entries up to an end, in order.
+// The places of the entries up to an end, in order. The list stays as it was where a roll is refused by its last entry: so the places go
+// into it only now, and the entries are passed a second time.
 fn fill(roll: &[u8], end: usize, list: &mut [u32])
     requires { ⌜ Fillable (now roll) end (now list) ⌝ }
     ensures { λ _. ⌜ ((es : List Entry) → EntriesStand (now (roll .entry)) 1 es end → now (list .exit) ≡ filled es (now (list .entry))) ⌝ }
@@ -137,25 +118,15 @@ pub fn read(roll: &[u8], list: &mut [u32]) -> RollAnswer
     ensures { λ r. ⌜ Lists (now (roll .entry)) (now (list .entry)) r (now (list .exit)) ⌝ }
 {
     match look_over(roll) {
-        LookedOver::Refused(refusal) => RollAnswer::Refused(refusal),
-        LookedOver::Reads {
-            entries,
-            filed,
-            done,
-            end,
-        } => {
-            if list.len() < entries as usize {
-                return RollAnswer::Refused(RollRefusal::MoreEntries(entries));
+        RollAnswer::Refused(refusal) => RollAnswer::Refused(refusal),
+        RollAnswer::Listed(sums) => {
+            if list.len() < sums.entries as usize {
+                return RollAnswer::Refused(RollRefusal::MoreEntries(sums.entries));
             }
-            if 0 < end {
-                fill(roll, end as usize, list);
+            if 0 < sums.end {
+                fill(roll, sums.end as usize, list);
             }
-            RollAnswer::Listed {
-                entries,
-                filed,
-                done,
-                end,
-            }
+            RollAnswer::Listed(sums)
         }
     }
 }
@@ -170,13 +141,12 @@ pub fn entry(roll: &[u8], at: usize) -> EntryAnswer
     match entry_at(roll, at) {
         EntryAt::Torn => EntryAnswer::NoEntry,
         EntryAt::Other { next } => EntryAnswer::NoEntry,
-        EntryAt::Done { job, next } => EntryAnswer::Found {
-            job: job.at as u32,
-            job_bytes: job.len as u32,
-            text: 0,
-            text_bytes: 0,
-        },
-        EntryAt::Filed { job, text, next } => EntryAnswer::Found {
+        EntryAt::Known {
+            kind,
+            job,
+            text,
+            next,
+        } => EntryAnswer::Found {
             job: job.at as u32,
             job_bytes: job.len as u32,
             text: text.at as u32,

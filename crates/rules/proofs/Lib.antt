@@ -3,3 +3,4 @@ pub mod Leftmost
 pub mod Rewrites
 pub mod Runs
 pub mod Windows
+pub mod Worked

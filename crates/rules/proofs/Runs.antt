@@ -17,6 +17,7 @@ use Rattle.plan.specs.Options.{under}
 use Rattle.rules.specs.Rewriting.{_⟶_, next}
 use Rattle.rules.specs.Running.{Asked, STOP, GO, ask, Ran, RAN, turn, one-more, run-plan, Leads}
 use Rattle.plan.proofs.Plans.{cells-relabel, cells-changed}
+use Rattle.kinds.proofs.Tests.{never}
 use Rattle.rules.proofs.Rewrites.{next-step, next-relabel, next-renamed, step-allowed, step-without-c, step-smaller}
 
 -- the ending of a run that makes no more steps, by what its last turn answered
@@ -50,10 +51,10 @@ module _ {L : Type 0} (n : ℕ) where
       by-test : (q : Plan L) (b : Bool) → leb (cells q) n ≡ b → cond b (GO q) (STOP Full) ≡ GO r →
           (some q ≡ some r) × (cells r ≤ n)
       by-test q true t h = let same : q ≡ r = cc in (ap some same, rw same at (leb-true (cells q) n t))
-      by-test q false t h = absurd (let z : _≡_ {A = ℕ} 0 1 = cc in omega arith)
+      by-test q false t h = never cc
 
       by-next : (y : Option (Plan L)) → ask n y ≡ GO r → (y ≡ some r) × (cells r ≤ n)
-      by-next none h = absurd (let z : _≡_ {A = ℕ} 0 1 = cc in omega arith)
+      by-next none h = never cc
       by-next (some q) h = by-test q (leb (cells q) n) refl h
 
   asked : (q : Plan L) → Stops n (ending (ask n (next q))) q
@@ -85,8 +86,7 @@ module _ {L : Type 0} (n : ℕ) where
   stop-not-quota p h =
       let more = ending-stops p Quota (ap ending h) in
       let goes = ask-go (next p) (more .0) .1 (more .1, more .2) in
-      let z : _≡_ {A = ℕ} 0 1 = cc in
-      omega arith
+      never cc
 
 -- the clauses of `run-plan`, by turns
 module _ {L : Type 0} (n : ℕ) where
@@ -182,7 +182,7 @@ module _ {L : Type 0} {n : ℕ} where
   larger m more (stop {p} h) done room time =
       let none-ready = ending-stops n p Done (ap ending h ∙ done) in
       stop (ap (ask m) none-ready ∙ ap STOP (sym done))
-  larger m more (spent h) done room time = absurd (let z : _≡_ {A = ℕ} 0 1 = cc in omega arith)
+  larger m more (spent h) done room time = never cc
   larger m zero (go h ran) done room time = absurd (omega arith)
   larger m (suc more) (go {p} {r} h ran) done room time =
       let fit = ask-go n (next p) r .0 h in

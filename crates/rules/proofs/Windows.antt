@@ -6,7 +6,6 @@ use mathlib.Core.Path.{_≡_, refl, ap, sym, _∙_}
 use mathlib.Core.List.{List}
 use mathlib.Core.Logic.{_↔_}
 use mathlib.Core.Option.{Option, none, some}
-use native.Mathlib.Omega.{arith}
 use Rattle.rules.specs.Frames.{Rule, hollow, lead, made}
 use Rattle.plan.specs.Options.{_else_, under}
 use Rattle.plan.specs.declared.Operator.{Operator}
@@ -15,6 +14,7 @@ use Rattle.plan.specs.Plan.{Plan, end, operator, token, block, _then_}
 use Rattle.rules.specs.Rewriting.{after-two, first-block, outer}
 use Rattle.plan.proofs.Options.{under-else, under-under}
 use Rattle.plan.proofs.Plans.{then-assoc}
+use Rattle.kinds.proofs.Tests.{never}
 
 -- q has the items z behind a front part, and its leftmost ready operator is one of z's
 pub record Front {L : Type 0} (q z : Plan L) : Type 0 where
@@ -116,7 +116,7 @@ there x = under (λ v. tt) x
 there-none : {A : Type 0} (x y : Option A) → there x ≡ there y → x ≡ none → y ≡ none
 unfolding under
 there-none x none e n = refl
-there-none x (some b) e n = absurd (let gone : there x ≡ none = ap there n in let z : _≡_ {A = ℕ} 0 1 = cc in omega arith)
+there-none x (some b) e n = let gone : there x ≡ none = ap there n in never cc
 
 both : {A : Type 0} (x y : Option A) → there x ≡ there y → (x ≡ none) ↔ (y ≡ none)
 both x y e = (there-none x y e, there-none y x (sym e))

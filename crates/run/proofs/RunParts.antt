@@ -29,17 +29,17 @@ use Rattle.read.specs.Accepted.{accepted-as}
 use Rattle.read.specs.declared.Acceptance.{Acceptance as Told}
 use Rattle.read.specs.declared.Acceptance.the-variants.{Accepted, NotRead as NotAccepted}
 use Rattle.read.proofs.Accepting.{told-plan, told-unread}
-use Rattle.pieces.specs.Written.{put-at}
-use Rattle.pieces.proofs.Putting.{put-front}
+use Rattle.kinds.specs.Written.{put-at}
+use Rattle.kinds.proofs.Putting.{put-front}
 use Rattle.memory.specs.Held.{HeldIn, HeldAlike}
 use Rattle.memory.specs.Model.{Aside, Lent}
 use Rattle.memory.specs.Pieces.{PrintsWithin, printLimit}
 use Rattle.memory.specs.declared.Held.{Held}
 use Rattle.memory.proofs.Whole.{lent-kept}
-use Rattle.engine.specs.Running.{RanAs, Runnable, Sized}
+use Rattle.engine.specs.Running.{RanAs, RunMade, Runnable, Sized}
 use Rattle.engine.specs.declared.Ended.{Ended}
 use Rattle.run.specs.Calls.{Runs}
-use Rattle.run.specs.Writing.{Printable, TextAccepted}
+use Rattle.run.specs.Writing.{EndWritten, Printable, TextAccepted}
 
 -- printing
 
@@ -53,8 +53,7 @@ module _ {text m : List ℕ} {e : Ended} (k : Printable text m e) where
     prints-in h = record { lent = k .lent; plan = k .plan; held = k .sized .held; fits = let size = is (k .plan) (k .sized .held) in omega arith }
 
 module _ {text m : List ℕ} (e : Ended) {long : ℕ} (is : (t : Plan ℕ) → HeldIn text m (e .held) t → long ≡ length (print t)) (out : List ℕ) where
-  pub writes-short : length out < long → (t : Plan ℕ) → Sized text m (e .held) (e .size) t
-      → Wrote run-family (as-run (RAN (e .ending) (e .steps) t)) out (Refused (OutShort long)) out
+  pub writes-short : length out < long → EndWritten text m e out (Refused (OutShort long)) out
   unfolding as-run
   writes-short h t s =
       let size = is t (s .held) in
@@ -62,7 +61,7 @@ module _ {text m : List ℕ} (e : Ended) {long : ℕ} (is : (t : Plan ℕ) → H
       (wrote-short run-family out refl (omega arith))
 
   pub writes-all : {out′ : List ℕ} → long ≤ length out → ((t : Plan ℕ) → HeldIn text m (e .held) t → out′ ≡ put-at out 0 (print t))
-      → (t : Plan ℕ) → Sized text m (e .held) (e .size) t → Wrote run-family (as-run (RAN (e .ending) (e .steps) t)) out (Ran (e .ending) (e .steps) (e .size) long) out′
+      → EndWritten text m e out (Ran (e .ending) (e .steps) (e .size) long) out′
   unfolding as-run
   writes-all h prints t s =
       let size = is t (s .held) in
@@ -109,7 +108,7 @@ module _ {text m : List ℕ} (outer : Cell) {size : ℕ} (k : TextAccepted text 
     built-runnable = record { lent = subst (λ c. Lent c m₁) (sym cell) (lent-kept (k .lent) (aside .as-long)); plan = plan₁; sized = sized₁ }
 
     -- what the run left
-    module _ (quota : ℕ) (m₂ : List ℕ) (e : Ended) (ran : (t : Plan ℕ) → Sized text m₁ h size t → RanAs text (h .outer .0) quota t m₂ e)
+    module _ (quota : ℕ) (m₂ : List ℕ) (e : Ended) (ran : RunMade text m₁ h size quota m₂ e)
         (same : e .held .outer ≡ h .outer) (aside₂ : Aside (h .outer .0) m₁ m₂) where
       end-plan : RanAs text (h .outer .0) quota plan₁ m₂ e
       end-plan = ran plan₁ sized₁
@@ -141,8 +140,7 @@ module _ {text m : List ℕ} (outer : Cell) {size : ℕ} (k : TextAccepted text 
                 (le-trans (print-bound tokenLimit q (omega arith) fine) (mul-le-mul-left tokenLimit (le-trans few (k .lent .few))));
           }
 
-      pub end-written : (out : List ℕ) {out′ : List ℕ} {r : RunAnswer}
-          → ((t : Plan ℕ) → Sized text m₂ (e .held) (e .size) t → Wrote run-family (as-run (RAN (e .ending) (e .steps) t)) out r out′)
+      pub end-written : (out : List ℕ) {out′ : List ℕ} {r : RunAnswer} → EndWritten text m₂ e out r out′
           → Wrote run-family (run-read n quota (read tokenLimit n text)) out r out′
       unfolding run-read as-run
       end-written out {out′} {r} writes =

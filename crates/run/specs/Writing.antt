@@ -10,6 +10,10 @@ use Rattle.memory.specs.Model.{Lent}
 use Rattle.memory.specs.Pieces.{printLimit}
 use Rattle.engine.specs.Running.{Sized}
 use Rattle.engine.specs.declared.Ended.{Ended}
+use Rattle.plan.specs.Outcomes.{Wrote}
+use Rattle.rules.specs.Running.{RAN}
+use Rattle.answers.specs.declared.RunAnswer.{RunAnswer}
+use Rattle.answers.specs.Run.{as-run, run-family}
 
 -- the memory holds the plan that a run ended with, and its printed text is none too long
 pub record Printable (text m : List ℕ) (e : Ended) : Type 0 where
@@ -17,6 +21,11 @@ pub record Printable (text m : List ℕ) (e : Ended) : Type 0 where
   pub plan : Plan ℕ
   pub sized : Sized text m (e .held) (e .size) plan
   pub fits : length (print plan) ≤ printLimit
+
+-- the answer and the output are those of a run that ended so, with the plan that the memory holds
+abbrev pub EndWritten : (text m : List ℕ) → Ended → (out : List ℕ) → RunAnswer → (out′ : List ℕ) → Type 0
+EndWritten text m e out r out′ =
+    (t : Plan ℕ) → Sized text m (e .held) (e .size) t → Wrote run-family (as-run (RAN (e .ending) (e .steps) t)) out r out′
 
 -- the text was accepted, with so many cells lent, as a plan that has so many
 pub record TextAccepted (text m : List ℕ) (n size : ℕ) : Type 0 where

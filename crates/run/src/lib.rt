@@ -2,17 +2,13 @@
 // leaves (specs/Calls.antt). The plan of an accepted text is built in the memory, rewritten there and printed from it. At the end of every
 // call, whatever its answer, all numbers lent are 0.
 ghost use mathlib.Core.Path.{_≡_};
-ghost use Prim.Native.Nat.{ℕ};
 ghost use lib.ListN.{length};
 ghost use Rattle.kinds.specs.Limits.{tokenLimit, standard};
 ghost use Rattle.plan.specs.Outcomes.{Wrote};
-ghost use Rattle.plan.specs.Plan.{Plan};
 ghost use Rattle.plan.specs.Reading.{read};
-ghost use Rattle.rules.specs.Running.{RAN};
-ghost use Rattle.answers.specs.Run.{as-run, quarter, run-family, run-read, runs};
-ghost use Rattle.engine.specs.Running.{Sized};
+ghost use Rattle.answers.specs.Run.{quarter, run-family, run-read, runs};
 ghost use Rattle.run.specs.Calls.{Runs};
-ghost use Rattle.run.specs.Writing.{Printable, TextAccepted};
+ghost use Rattle.run.specs.Writing.{EndWritten, Printable, TextAccepted};
 use answers::RunAnswer;
 use answers::RunRefusal;
 use engine::Ended;
@@ -30,7 +26,7 @@ use read::accept;
 // The answer of a run that ended, and its printed text in the output; or 18, and the output as it was.
 fn print_plan(text: &[u8], memory: &[u32], ended: Ended, output: &mut [u8]) -> RunAnswer
     requires { ⌜ Printable (now text) (now memory) ended ⌝ }
-    ensures { λ r. ⌜ ((t : Plan ℕ) → Sized (now (text .entry)) (now (memory .entry)) (ended .held) (ended .size) t → Wrote run-family (as-run (RAN (ended .ending) (ended .steps) t)) (now (output .entry)) r (now (output .exit))) ⌝ }
+    ensures { λ r. ⌜ EndWritten (now (text .entry)) (now (memory .entry)) ended (now (output .entry)) r (now (output .exit)) ⌝ }
 {
     let held = ended.held;
     let ending = ended.ending;

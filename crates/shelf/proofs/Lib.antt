@@ -1,4 +1,4 @@
+pub mod Keeping
 pub mod Noting
 pub mod Seeking
 pub mod Standing
-pub mod Words

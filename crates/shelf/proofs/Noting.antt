@@ -9,7 +9,7 @@ use borrow.Author.Tests.{ne-eqb}
 use lib.Dec.{eqb}
 use lib.ListN.{getD, length, length-set, replicate, set}
 use lib.Seq.{getD-set-other, getD-set-same}
-use Rattle.plan.proofs.Tests.{never}
+use Rattle.kinds.proofs.Tests.{never}
 use Rattle.shelf.specs.Notes.{noted, with-note}
 use Rattle.shelf.specs.declared.Noted.{Noted}
 use Rattle.shelf.specs.declared.Noted.the-variants.{Nothing, Both}

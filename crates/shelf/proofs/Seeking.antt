@@ -10,7 +10,7 @@ use lib.Seq.{drop-drop, getD-drop, take-append-seam}
 use Rattle.plan.specs.Plan.{open-brace, close-brace}
 use Rattle.kinds.specs.declared.Token.{Token}
 use Rattle.plan.specs.Pieces.{Piece as PlanPiece, TOKEN}
-use Rattle.plan.proofs.Tests.{never}
+use Rattle.kinds.proofs.Tests.{never}
 use Rattle.pieces.specs.Written.{Is, TokenAt, is-close, is-open, is-operator, is-token}
 use Rattle.pieces.specs.declared.Piece.{Piece}
 use Rattle.pieces.specs.declared.Piece.the-variants.{Token as Tok}
@@ -18,41 +18,41 @@ use Rattle.stored.specs.Same.{same}
 use Rattle.words.specs.Linking.{percent}
 use Rattle.shelf.specs.declared.Named.{Named}
 use Rattle.shelf.specs.declared.Named.the-variants.{Unlisted, Listed}
-use Rattle.shelf.specs.Shelf.{TokenStands, seek, seek-piece, word-from, word-of}
+use Rattle.shelf.specs.Shelf.{TokenStands, seek, seek-piece, word-of}
 
-module _ (list starts name : List ℕ) where
+module _ (list spans name : List ℕ) where
   -- the word just below a rank is the one, or the words before it are asked
-  module _ {rank : ℕ} (h : 1 ≤ rank) {r : Bool} (told : r ≡ same name (word-from list (getD starts (rank - 1) 0) .name)) where
-    step : seek list starts rank (percent ∷ name) ≡ cond r (Listed (rank - 1)) (seek list starts (rank - 1) (percent ∷ name))
-    unfolding seek same word-of
+  module _ {rank : ℕ} (h : 1 ≤ rank) {r : Bool} (told : r ≡ same name (word-of list spans (rank - 1) .name)) where
+    step : seek list spans rank (percent ∷ name) ≡ cond r (Listed (rank - 1)) (seek list spans (rank - 1) (percent ∷ name))
+    unfolding seek same
     step = go rank h told
       where
-        go : (n : ℕ) → 1 ≤ n → r ≡ same name (word-from list (getD starts (n - 1) 0) .name)
-            → seek list starts n (percent ∷ name) ≡ cond r (Listed (n - 1)) (seek list starts (n - 1) (percent ∷ name))
+        go : (n : ℕ) → 1 ≤ n → r ≡ same name (word-of list spans (n - 1) .name)
+            → seek list spans n (percent ∷ name) ≡ cond r (Listed (n - 1)) (seek list spans (n - 1) (percent ∷ name))
         go zero g e = absurd (omega arith)
         go (suc n) g e =
             let below : suc n - 1 ≡ n = omega arith in
-            let told-below = subst (λ k. r ≡ same name (word-from list (getD starts k 0) .name)) below e in
-            rw below (ap (λ b. cond b (Listed n) (seek list starts n (percent ∷ name))) (sym told-below))
+            let told-below = subst (λ k. r ≡ same name (word-of list spans k .name)) below e in
+            rw below (ap (λ b. cond b (Listed n) (seek list spans n (percent ∷ name))) (sym told-below))
 
-    pub seek-here : r ≡ true → Listed (rank - 1) ≡ seek list starts rank (percent ∷ name)
-    seek-here e = sym (step ∙ ap (λ b. cond b (Listed (rank - 1)) (seek list starts (rank - 1) (percent ∷ name))) e)
+    pub seek-here : r ≡ true → Listed (rank - 1) ≡ seek list spans rank (percent ∷ name)
+    seek-here e = sym (step ∙ ap (λ b. cond b (Listed (rank - 1)) (seek list spans (rank - 1) (percent ∷ name))) e)
 
-    pub seek-on : r ≡ false → seek list starts rank (percent ∷ name) ≡ seek list starts (rank - 1) (percent ∷ name)
-    seek-on e = step ∙ ap (λ b. cond b (Listed (rank - 1)) (seek list starts (rank - 1) (percent ∷ name))) e
+    pub seek-on : r ≡ false → seek list spans rank (percent ∷ name) ≡ seek list spans (rank - 1) (percent ∷ name)
+    seek-on e = step ∙ ap (λ b. cond b (Listed (rank - 1)) (seek list spans (rank - 1) (percent ∷ name))) e
 
-  pub seek-none : (rank : ℕ) → rank ≡ 0 → seek list starts rank (percent ∷ name) ≡ Unlisted
+  pub seek-none : (rank : ℕ) → rank ≡ 0 → seek list spans rank (percent ∷ name) ≡ Unlisted
   unfolding seek
-  seek-none rank e = ap (λ n. seek list starts n (percent ∷ name)) e
+  seek-none rank e = ap (λ n. seek list spans n (percent ∷ name)) e
 
 -- a token whose text does not begin with `%` names none
-module _ (list starts : List ℕ) where
-  other : (n b : ℕ) (t : List ℕ) → (b ≡ percent → ⊥) → seek list starts n (b ∷ t) ≡ Unlisted
+module _ (list spans : List ℕ) where
+  other : (n b : ℕ) (t : List ℕ) → (b ≡ percent → ⊥) → seek list spans n (b ∷ t) ≡ Unlisted
   unfolding seek same
   other zero b t h = refl
   other (suc n) b t h = rw (ne-eqb b percent h) (other n b t h)
 
-  nothing : (n : ℕ) → seek list starts n [] ≡ Unlisted
+  nothing : (n : ℕ) → seek list spans n [] ≡ Unlisted
   unfolding seek same
   nothing zero = refl
   nothing (suc n) = nothing n
@@ -77,10 +77,10 @@ module _ (list starts : List ℕ) where
     second : getD text (at + 1) 0 ≡ getD (t ++ rest) 0 0
     second = sym (getD-drop at text 1 0) ∙ ap (λ l. getD l 1 0) shape
 
-    pub seek-other : (getD text (at + 1) 0 ≡ percent → ⊥) → Unlisted ≡ seek list starts n t
+    pub seek-other : (getD text (at + 1) 0 ≡ percent → ⊥) → Unlisted ≡ seek list spans n t
     seek-other h = sym (go t second)
       where
-        go : (u : List ℕ) → getD text (at + 1) 0 ≡ getD (u ++ rest) 0 0 → seek list starts n u ≡ Unlisted
+        go : (u : List ℕ) → getD text (at + 1) 0 ≡ getD (u ++ rest) 0 0 → seek list spans n u ≡ Unlisted
         go [] e = nothing n
         go (b ∷ u) e = other n b u (λ q. h (e ∙ q))
 
@@ -92,9 +92,9 @@ module _ (list starts : List ℕ) where
         go [] e l = absurd (let z : _≡_ {A = ℕ} 125 37 = sym e ∙ h in omega arith)
         go (b ∷ u) e l = omega arith
 
-    pub seek-token : {r : Named} → getD text (at + 1) 0 ≡ percent → r ≡ seek list starts n (percent ∷ take (at + len - 1 - (at + 2)) (drop (at + 2) text)) → r ≡ seek list starts n t
+    pub seek-token : {r : Named} → getD text (at + 1) 0 ≡ percent → r ≡ seek list spans n (percent ∷ take (at + len - 1 - (at + 2)) (drop (at + 2) text)) → r ≡ seek list spans n t
     unfolding rest
-    seek-token {r} h e = e ∙ ap (seek list starts n) (go t second token-long shape)
+    seek-token {r} h e = e ∙ ap (seek list spans n) (go t second token-long shape)
       where
         go : (u : List ℕ) → getD text (at + 1) 0 ≡ getD (u ++ rest) 0 0 → len ≡ length u + 2 → drop at text ≡ open-brace ∷ (u ++ rest)
             → percent ∷ take (at + len - 1 - (at + 2)) (drop (at + 2) text) ≡ u
@@ -106,11 +106,11 @@ module _ (list starts : List ℕ) where
 
 -- a piece names what its token names, and only a token names any
 module _ {text : List ℕ} where
-  pub none-named : {x : PlanPiece ℕ} (list starts : List ℕ) (n : ℕ) {k : Piece} → Is text k x → ((j : Token) → k ≡ Tok j → ⊥) → Unlisted ≡ seek-piece list starts n x
-  none-named list starts n is-operator h = refl
-  none-named list starts n (is-token s) h = absurd (h _ refl)
-  none-named list starts n is-open h = refl
-  none-named list starts n is-close h = refl
+  pub none-named : {x : PlanPiece ℕ} (list spans : List ℕ) (n : ℕ) {k : Piece} → Is text k x → ((j : Token) → k ≡ Tok j → ⊥) → Unlisted ≡ seek-piece list spans n x
+  none-named list spans n is-operator h = refl
+  none-named list spans n (is-token s) h = absurd (h _ refl)
+  none-named list spans n is-open h = refl
+  none-named list spans n is-close h = refl
 
   token-is : {x : PlanPiece ℕ} {k : Piece} {j : Token} → Is text k x → k ≡ Tok j → (l : ℕ) × (t : List ℕ) × (x ≡ TOKEN l t) × TokenAt text (j .at .0) (j .len) t
   token-is is-operator e = never cc
@@ -118,9 +118,9 @@ module _ {text : List ℕ} where
   token-is is-open e = never cc
   token-is is-close e = never cc
 
-  pub token-names : {x : PlanPiece ℕ} (list starts : List ℕ) (n : ℕ) {k : Piece} {j : Token} {r : Named} → Is text k x → k ≡ Tok j
-      → ((t : List ℕ) → TokenAt text (j .at .0) (j .len) t → r ≡ seek list starts n t) → r ≡ seek-piece list starts n x
-  token-names list starts n is e h = let (l, t, same, s) = token-is is e in h t s ∙ ap (seek-piece list starts n) (sym same)
+  pub token-names : {x : PlanPiece ℕ} (list spans : List ℕ) (n : ℕ) {k : Piece} {j : Token} {r : Named} → Is text k x → k ≡ Tok j
+      → ((t : List ℕ) → TokenAt text (j .at .0) (j .len) t → r ≡ seek list spans n t) → r ≡ seek-piece list spans n x
+  token-names list spans n is e h = let (l, t, same, s) = token-is is e in h t s ∙ ap (seek-piece list spans n) (sym same)
 
   pub token-stands : {x : PlanPiece ℕ} {k : Piece} {j : Token} → Is text k x → k ≡ Tok j → TokenStands text j
   token-stands is e = let (l, t, same, s) = token-is is e in (t, s)

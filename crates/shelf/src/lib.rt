@@ -1,5 +1,5 @@
-// Where the words of a list stand, and which of them a token names. A word is known by its rank; `starts` has for each rank the place
-// of the word's first byte in the list.
+// Where the words of a list stand, and which of them a token names. A word is known by its rank; `spans` has for each rank where the
+// word's name and its text stand in the list.
 ghost use mathlib.Core.Path.{_≡_};
 ghost use Prim.Native.Nat.{ℕ};
 ghost use mathlib.Core.List.{List, _∷_};
@@ -7,16 +7,20 @@ ghost use Rattle.plan.specs.Pieces.{Piece as PlanPiece};
 ghost use Rattle.pieces.specs.Written.{Is, TokenAt};
 ghost use Rattle.stored.specs.Same.{same};
 ghost use Rattle.words.specs.Linking.{percent};
-ghost use Rattle.shelf.specs.Shelf.{PieceStands, Shelved, TokenStands, WordThere, seek, seek-piece, word-from};
+ghost use Rattle.shelf.specs.Shelf.{PieceStands, Shelved, TokenStands, seek, seek-piece, word-of};
+ghost use Rattle.shelf.specs.Spans.{WordKept};
 use kinds::Token;
 use pieces::Piece;
-use stored::RunAt;
-use stored::run_at;
 
 mod notes;
+mod spans;
 
 pub use notes::note;
 pub use notes::recall;
+pub use spans::WORD_NUMBERS;
+pub use spans::keep;
+use spans::name_of;
+pub use spans::text_of;
 
 // Which of the first words a token names.
 pub enum Named {
@@ -30,52 +34,23 @@ pub enum Noted {
     Both(u32, u32),
 }
 
-// The text of the word at a place.
-pub fn text_at(list: &[u8], at: usize) -> &[u8]
-    ensures { λ r. ⌜ now r ≡ word-from (now (list .entry)) at .text ⌝ }
+// Whether the word of a rank has a name.
+fn is_named(list: &[u8], spans: &[u32], rank: u32, name: &[u8]) -> bool
+    requires { ⌜ WordKept (now list) (now spans) rank ⌝ }
+    ensures { λ r. ⌜ r ≡ same (now (name .entry)) (word-of (now (list .entry)) (now (spans .entry)) rank .name) ⌝ }
 {
-    match run_at(list, at) {
-        RunAt::Cut => &list[0..0],
-        RunAt::Whole { from, len } => {
-            let behind = from + len;
-            match run_at(list, behind) {
-                RunAt::Cut => &list[0..0],
-                RunAt::Whole {
-                    from: start,
-                    len: size,
-                } => {
-                    let end = start + size;
-                    &list[start..end]
-                }
-            }
-        }
-    }
-}
-
-// Whether the word at a place has a name.
-fn is_named(list: &[u8], at: usize, name: &[u8]) -> bool
-    requires { ⌜ WordThere (now list) at ⌝ }
-    ensures { λ r. ⌜ r ≡ same (now (name .entry)) (word-from (now (list .entry)) at .name) ⌝ }
-{
-    match run_at(list, at) {
-        RunAt::Cut => false,
-        RunAt::Whole { from, len } => {
-            let end = from + len;
-            check::same(name, &list[from..end])
-        }
-    }
+    check::same(name, name_of(list, spans, rank))
 }
 
 // Which of the words below a rank has a name. No two of them have the same one.
-pub fn find(list: &[u8], starts: &[u32], below: u32, name: &[u8]) -> Named
-    requires { ⌜ Shelved (now list) (now starts) below ⌝ }
-    ensures { λ r. ⌜ r ≡ seek (now (list .entry)) (now (starts .entry)) below (percent ∷ now (name .entry)) ⌝ }
+pub fn find(list: &[u8], spans: &[u32], below: u32, name: &[u8]) -> Named
+    requires { ⌜ Shelved (now list) (now spans) below ⌝ }
+    ensures { λ r. ⌜ r ≡ seek (now (list .entry)) (now (spans .entry)) below (percent ∷ now (name .entry)) ⌝ }
 {
     let mut rank = below;
     while 0 < rank {
         rank -= 1;
-        let at = starts[rank as usize] as usize;
-        if is_named(list, at, name) {
+        if is_named(list, spans, rank, name) {
             return Named::Listed(rank);
         }
     }
@@ -83,9 +58,9 @@ pub fn find(list: &[u8], starts: &[u32], below: u32, name: &[u8]) -> Named
 }
 
 // Which of the words below a rank a token of the text names: behind its `{` stands `%`, and then the name.
-fn find_token(list: &[u8], starts: &[u32], below: u32, text: &[u8], token: Token) -> Named
-    requires { ⌜ Shelved (now list) (now starts) below × TokenStands (now text) token ⌝ }
-    ensures { λ r. ⌜ ((t : List ℕ) → TokenAt (now (text .entry)) (token .at .0) (token .len) t → r ≡ seek (now (list .entry)) (now (starts .entry)) below t) ⌝ }
+fn find_token(list: &[u8], spans: &[u32], below: u32, text: &[u8], token: Token) -> Named
+    requires { ⌜ Shelved (now list) (now spans) below × TokenStands (now text) token ⌝ }
+    ensures { λ r. ⌜ ((t : List ℕ) → TokenAt (now (text .entry)) (token .at .0) (token .len) t → r ≡ seek (now (list .entry)) (now (spans .entry)) below t) ⌝ }
 {
     let at = token.at.0 as usize;
     let len = token.len as usize;
@@ -94,17 +69,17 @@ fn find_token(list: &[u8], starts: &[u32], below: u32, text: &[u8], token: Token
     }
     let start = at + 2;
     let end = at + len - 1;
-    find(list, starts, below, &text[start..end])
+    find(list, spans, below, &text[start..end])
 }
 
 // Which of the words below a rank a piece of the text names: only a token names any.
-pub fn find_piece(list: &[u8], starts: &[u32], below: u32, text: &[u8], piece: Piece) -> Named
-    requires { ⌜ Shelved (now list) (now starts) below × PieceStands (now text) piece ⌝ }
-    ensures { λ r. ⌜ ((x : PlanPiece ℕ) → Is (now (text .entry)) piece x → r ≡ seek-piece (now (list .entry)) (now (starts .entry)) below x) ⌝ }
+pub fn find_piece(list: &[u8], spans: &[u32], below: u32, text: &[u8], piece: Piece) -> Named
+    requires { ⌜ Shelved (now list) (now spans) below × PieceStands (now text) piece ⌝ }
+    ensures { λ r. ⌜ ((x : PlanPiece ℕ) → Is (now (text .entry)) piece x → r ≡ seek-piece (now (list .entry)) (now (spans .entry)) below x) ⌝ }
 {
     match piece {
         Piece::Operator(_) => Named::Unlisted,
-        Piece::Token(token) => find_token(list, starts, below, text, token),
+        Piece::Token(token) => find_token(list, spans, below, text, token),
         Piece::Open => Named::Unlisted,
         Piece::Close => Named::Unlisted,
     }

@@ -2,6 +2,7 @@
 ghost use mathlib.Core.Path.{_≡_};
 ghost use Prim.Native.Nat.{_+_, _*_, _<_};
 ghost use lib.ListN.{length};
+ghost use Rattle.stored.specs.Counted.{largest};
 ghost use Rattle.shelf.specs.Notes.{noted, with-note};
 use crate::Noted;
 
@@ -18,7 +19,7 @@ pub fn recall(notes: &[u32], rank: u32) -> Noted
 }
 
 pub fn note(notes: &mut [u32], rank: u32, first: u32, second: u32)
-    requires { ⌜ (2 * rank + 1 < length (now notes)) × (first < 4294967295) ⌝ }
+    requires { ⌜ (2 * rank + 1 < length (now notes)) × (first < largest) ⌝ }
     ensures { λ _. ⌜ now (notes .exit) ≡ with-note (now (notes .entry)) rank first second ⌝ }
 {
     let at = 2 * rank as usize;

@@ -25,31 +25,31 @@ nothing-printed (operator l o p) e h = absurd (omega (arith, ap (λ (w : Weight)
 nothing-printed (token l t p) e h = absurd (omega (arith, ap (λ (w : Weight). w .cells) e))
 nothing-printed (block l b p) e h = absurd (omega (arith, ap (λ (w : Weight). w .cells) e))
 
-module _ (list starts : List ℕ) (n : ℕ) (out : List ℕ) (put : ℕ) (x : Piece ℕ) {found : Named} (told : found ≡ seek-piece list starts n x) where
-  pub puts-itself : found ≡ Unlisted → put-in (stands-to list starts n) x ≡ x ∷ []
-  puts-itself e = piece-unlisted list starts n x (sym told ∙ e)
+module _ (list spans : List ℕ) (n : ℕ) (out : List ℕ) (put : ℕ) (x : Piece ℕ) {found : Named} (told : found ≡ seek-piece list spans n x) where
+  pub puts-itself : found ≡ Unlisted → put-in (stands-to list spans n) x ≡ x ∷ []
+  puts-itself e = piece-unlisted list spans n x (sym told ∙ e)
 
   pub puts-below : {r : ℕ} → found ≡ Listed r → r < n
-  puts-below e = piece-listed list starts n x (sym told ∙ e) .0
+  puts-below e = piece-listed list spans n x (sym told ∙ e) .0
 
-  pub puts-word : {r : ℕ} (p : ToPut) → found ≡ Listed r → WordTells list starts out put r p → ToPutTells list starts n out put p x
+  pub puts-word : {r : ℕ} (p : ToPut) → found ≡ Listed r → WordTells list spans out put r p → ToPutTells list spans n out put p x
   puts-word {r} p e tells = go p tells
     where
-      listed-so : (r < n) × (put-in (stands-to list starts n) x ≡ pieces (linked-word list starts r))
-      listed-so = piece-listed list starts n x (sym told ∙ e)
+      listed-so : (r < n) × (put-in (stands-to list spans n) x ≡ pieces (linked-word list spans r))
+      listed-so = piece-listed list spans n x (sym told ∙ e)
 
-      go : (q : ToPut) → WordTells list starts out put r q → ToPutTells list starts n out put q x
+      go : (q : ToPut) → WordTells list spans out put r q → ToPutTells list spans n out put q x
       go Itself h = absurd h
-      go (Copy from len) (before, is) = (before, is ∙ print-pieces (linked-word list starts r) ∙ ap in-a-row (sym (listed-so .1)))
-      go (Word s) h = subst (λ k. (k < n) × (put-in (stands-to list starts n) x ≡ pieces (linked-word list starts k))) (sym h) listed-so
+      go (Copy from len) (before, is) = (before, is ∙ print-pieces (linked-word list spans r) ∙ ap in-a-row (sym (listed-so .1)))
+      go (Word s) h = subst (λ k. (k < n) × (put-in (stands-to list spans n) x ≡ pieces (linked-word list spans k))) (sym h) listed-so
 
 -- what was told of a piece, by what it was found to be
-module _ (list starts : List ℕ) (n : ℕ) (out : List ℕ) (put : ℕ) (x : Piece ℕ) {h : ToPut} (tells : ToPutTells list starts n out put h x) where
-  pub tells-itself : h ≡ Itself → put-in (stands-to list starts n) x ≡ x ∷ []
-  tells-itself e = subst (λ z. ToPutTells list starts n out put z x) e tells
+module _ (list spans : List ℕ) (n : ℕ) (out : List ℕ) (put : ℕ) (x : Piece ℕ) {h : ToPut} (tells : ToPutTells list spans n out put h x) where
+  pub tells-itself : h ≡ Itself → put-in (stands-to list spans n) x ≡ x ∷ []
+  tells-itself e = subst (λ z. ToPutTells list spans n out put z x) e tells
 
-  pub tells-copy : {from len : ℕ} → h ≡ Copy from len → StandsBefore out put from len (in-a-row (put-in (stands-to list starts n) x))
-  tells-copy e = subst (λ z. ToPutTells list starts n out put z x) e tells
+  pub tells-copy : {from len : ℕ} → h ≡ Copy from len → StandsBefore out put from len (in-a-row (put-in (stands-to list spans n) x))
+  tells-copy e = subst (λ z. ToPutTells list spans n out put z x) e tells
 
-  pub tells-word : {r : ℕ} → h ≡ Word r → (r < n) × (put-in (stands-to list starts n) x ≡ pieces (linked-word list starts r))
-  tells-word e = subst (λ z. ToPutTells list starts n out put z x) e tells
+  pub tells-word : {r : ℕ} → h ≡ Word r → (r < n) × (put-in (stands-to list spans n) x ≡ pieces (linked-word list spans r))
+  tells-word e = subst (λ z. ToPutTells list spans n out put z x) e tells

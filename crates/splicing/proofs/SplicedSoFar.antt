@@ -1,43 +1,44 @@
 -- A turn of the walk that writes a linked text: what was put so far stands in the output, and what is remembered of the words stands there too.
-use Prim.Native.Nat.{ℕ, _+_, _*_, _-_, _≤_, _<_}
+use Prim.Native.Nat.{ℕ, _+_, _-_, _≤_, _<_}
 use mathlib.Core.Path.{_≡_, refl, ap, ap₂, sym, subst, _∙_}
 use mathlib.Core.List.{List, [], _∷_, _++_, append-nil}
 use native.Mathlib.Omega.{arith}
 use native.Mathlib.Nat.{add-zero}
-use lib.ListN.{drop, getD, length, length-append, length-drop, length-take, take}
+use lib.ListN.{drop, length, length-append, length-drop, length-take, take}
 use Rattle.plan.specs.Plan.{print}
 use Rattle.plan.specs.Pieces.{Piece, in-a-row, piece-print, pieces}
 use Rattle.plan.proofs.Pieces.{print-pieces, row-append}
-use Rattle.pieces.specs.Written.{InText, piece-bytes, piece-length, put-at}
+use Rattle.kinds.specs.Written.{put-at}
+use Rattle.pieces.specs.Written.{InText, piece-bytes, piece-length}
 use Rattle.pieces.specs.declared.Piece.{Piece as CodePiece}
 use Rattle.pieces.proofs.Pieces.{is-in-text, is-printed, length-piece}
-use Rattle.pieces.proofs.Putting.{put-long, put-nothing, put-on}
+use Rattle.kinds.proofs.Putting.{put-long, put-nothing, put-on}
 use Rattle.items.specs.Walk.{Passed}
 use Rattle.words.specs.Places.{put-in}
 use Rattle.shelf.specs.Notes.{noted, with-note}
-use Rattle.shelf.specs.Shelf.{Readable, linked-text, linked-word, stands-to, word-from}
+use Rattle.shelf.specs.Shelf.{linked-text, linked-word, stands-to, word-of}
 use Rattle.shelf.proofs.Noting.{noted-long, noted-right}
-use Rattle.shelf.proofs.Standing.{LinkedSoFar, linked-first, linked-on, linked-part, shelved-below, word-text}
-use Rattle.splicing.specs.Splicing.{WordsPlaced, WordsReady, StandsBefore, Writable, printedLimit}
+use Rattle.shelf.proofs.Standing.{LinkedSoFar, linked-first, linked-on, linked-part, shelved-below}
+use Rattle.splicing.specs.Splicing.{WordsPlaced, WordsReady, StandsBefore, Writable, WritableWord, printedLimit}
 use Rattle.splicing.proofs.Standing.{stands-here, stands-on}
 
-pub record SplicedSoFar (list starts text : List ℕ) (n : ℕ) (weights places₀ out₀ : List ℕ) (put : ℕ) (places out : List ℕ) (end at : ℕ) : Type 0 where
+pub record SplicedSoFar (list spans text : List ℕ) (n : ℕ) (weights places₀ out₀ : List ℕ) (put : ℕ) (places out : List ℕ) (end at : ℕ) : Type 0 where
   pub gone : List (Piece ℕ)
-  pub so-far : LinkedSoFar list starts text n at gone
+  pub so-far : LinkedSoFar list spans text n at gone
   pub end-is : end ≡ put + length (in-a-row gone)
   pub holds : out ≡ put-at out₀ put (in-a-row gone)
-  pub ready : WordsReady list starts n weights places out end
-  pub room : put + length (print (linked-text list starts n text)) ≤ length out₀
-  pub small : put + length (print (linked-text list starts n text)) ≤ printedLimit
+  pub ready : WordsReady list spans n weights places out end
+  pub room : put + length (print (linked-text list spans n text)) ≤ length out₀
+  pub small : put + length (print (linked-text list spans n text)) ≤ printedLimit
   pub same : length places ≡ length places₀
 
-pub spliced-first : {list starts text : List ℕ} {n : ℕ} {weights places out : List ℕ} {put : ℕ} → Writable list starts text n weights places out put
-    → SplicedSoFar list starts text n weights places out put places out put 0
+pub spliced-first : {list spans text : List ℕ} {n : ℕ} {weights places out : List ℕ} {put : ℕ} → Writable list spans text n weights places out put
+    → SplicedSoFar list spans text n weights places out put places out put 0
 unfolding in-a-row
-spliced-first {list} {starts} {n = n} {out = out} {put = put} w =
+spliced-first {list} {spans} {n = n} {out = out} {put = put} w =
     record {
       gone = [];
-      so-far = linked-first list starts n (w .readable);
+      so-far = linked-first list spans n (w .readable);
       end-is = sym (add-zero put);
       holds = sym (put-nothing out put);
       ready = w .ready;
@@ -46,23 +47,23 @@ spliced-first {list} {starts} {n = n} {out = out} {put = put} w =
       same = refl;
     }
 
-module _ {list starts text : List ℕ} {n : ℕ} {weights places₀ out₀ : List ℕ} {put : ℕ} {places out : List ℕ} {end at : ℕ}
-    (inv : SplicedSoFar list starts text n weights places₀ out₀ put places out end at) where
-  module _ (over : pieces (linked-text list starts n text) ≡ inv .gone) where
-    all : print (linked-text list starts n text) ≡ in-a-row (inv .gone)
-    all = print-pieces (linked-text list starts n text) ∙ ap in-a-row over
+module _ {list spans text : List ℕ} {n : ℕ} {weights places₀ out₀ : List ℕ} {put : ℕ} {places out : List ℕ} {end at : ℕ}
+    (inv : SplicedSoFar list spans text n weights places₀ out₀ put places out end at) where
+  module _ (over : pieces (linked-text list spans n text) ≡ inv .gone) where
+    all : print (linked-text list spans n text) ≡ in-a-row (inv .gone)
+    all = print-pieces (linked-text list spans n text) ∙ ap in-a-row over
 
-    pub spliced-behind : end ≡ put + length (print (linked-text list starts n text))
+    pub spliced-behind : end ≡ put + length (print (linked-text list spans n text))
     spliced-behind = inv .end-is ∙ ap (λ l. put + length l) (sym all)
 
-    pub spliced-written : out ≡ put-at out₀ put (print (linked-text list starts n text))
+    pub spliced-written : out ≡ put-at out₀ put (print (linked-text list spans n text))
     spliced-written = inv .holds ∙ ap (put-at out₀ put) (sym all)
 
   -- what was put, and more, is within the whole
-  size-of : (more : List (Piece ℕ)) → pieces (linked-text list starts n text) ≡ inv .gone ++ more
-      → length (print (linked-text list starts n text)) ≡ length (in-a-row (inv .gone)) + length (in-a-row more)
+  size-of : (more : List (Piece ℕ)) → pieces (linked-text list spans n text) ≡ inv .gone ++ more
+      → length (print (linked-text list spans n text)) ≡ length (in-a-row (inv .gone)) + length (in-a-row more)
   size-of more e =
-      ap length (print-pieces (linked-text list starts n text) ∙ ap in-a-row e ∙ row-append (inv .gone) more) ∙ length-append (in-a-row (inv .gone)) (in-a-row more)
+      ap length (print-pieces (linked-text list spans n text) ∙ ap in-a-row e ∙ row-append (inv .gone) more) ∙ length-append (in-a-row (inv .gone)) (in-a-row more)
 
   put-so-far : put + length (in-a-row (inv .gone)) ≤ length out₀
   put-so-far = omega (arith, inv .room, size-of _ (inv .so-far .whole))
@@ -74,12 +75,12 @@ module _ {list starts text : List ℕ} {n : ℕ} {weights places₀ out₀ : Lis
   spliced-end = (omega (arith, inv .end-is, spliced-long, put-so-far), omega (arith, inv .end-is, inv .small, size-of _ (inv .so-far .whole)))
 
   module _ (k : CodePiece) (place rest : ℕ) (passed : Passed text at k place rest (inv .so-far .ahead .come)) where
-    module _ {here : List (Piece ℕ)} (is : put-in (stands-to list starts n) (passed .first) ≡ here) where
+    module _ {here : List (Piece ℕ)} (is : put-in (stands-to list spans n) (passed .first) ≡ here) where
       -- there is room for what is put here
       roomy : (end + length (in-a-row here) ≤ length out) × (end + length (in-a-row here) ≤ printedLimit)
       roomy =
           let (later, whole) = linked-part (inv .so-far) k place rest passed is in
-          let size = ap length (print-pieces (linked-text list starts n text) ∙ ap in-a-row whole ∙ row-append (inv .gone ++ here) later
+          let size = ap length (print-pieces (linked-text list spans n text) ∙ ap in-a-row whole ∙ row-append (inv .gone ++ here) later
           ∙ ap (_++ in-a-row later) (row-append (inv .gone) here)) in
           let bytes = length-append (in-a-row (inv .gone) ++ in-a-row here) (in-a-row later) in
           let both = length-append (in-a-row (inv .gone)) (in-a-row here) in (
@@ -88,8 +89,8 @@ module _ {list starts text : List ℕ} {n : ℕ} {weights places₀ out₀ : Lis
           )
 
       on : (bytes places′ out′ : List ℕ) (end′ : ℕ) → bytes ≡ in-a-row here → out′ ≡ put-at out end bytes → end′ ≡ end + length bytes
-          → WordsPlaced list starts places′ out′ end′ → length places′ ≡ length places
-          → SplicedSoFar list starts text n weights places₀ out₀ put places′ out′ end′ rest
+          → WordsPlaced list spans places′ out′ end′ → length places′ ≡ length places
+          → SplicedSoFar list spans text n weights places₀ out₀ put places′ out′ end′ rest
       on bytes places′ out′ end′ b e f placed long =
           let row = row-append (inv .gone) here in
           record {
@@ -113,14 +114,14 @@ module _ {list starts text : List ℕ} {n : ℕ} {weights places₀ out₀ : Lis
           }
 
       -- what is remembered stays where it stands
-      kept : (bytes out′ : List ℕ) → bytes ≡ in-a-row here → out′ ≡ put-at out end bytes → WordsPlaced list starts places out′ (end + length bytes)
+      kept : (bytes out′ : List ℕ) → bytes ≡ in-a-row here → out′ ≡ put-at out end bytes → WordsPlaced list spans places out′ (end + length bytes)
       kept bytes out′ b e r x y h =
           let fits : end + length bytes ≤ length out = omega (arith, roomy .0, ap length b) in
-          subst (λ l. StandsBefore l (end + length bytes) x y (print (linked-word list starts r))) (sym e)
+          subst (λ l. StandsBefore l (end + length bytes) x y (print (linked-word list spans r))) (sym e)
           (stands-on out end (spliced-end .0) bytes x y _ (put-long out end bytes fits) (inv .ready .placed r x y h))
 
     -- a piece that stays
-    module _ (stays : put-in (stands-to list starts n) (passed .first) ≡ passed .first ∷ []) where
+    module _ (stays : put-in (stands-to list spans n) (passed .first) ≡ passed .first ∷ []) where
       pub spliced-in-text : InText text k
       spliced-in-text = is-in-text (passed .is)
 
@@ -135,71 +136,91 @@ module _ {list starts text : List ℕ} {n : ℕ} {weights places₀ out₀ : Lis
       spliced-room = omega (arith, roomy stays .0, ap length itself, size)
 
       pub spliced-itself : {end′ : ℕ} (out′ : List ℕ) → end′ ≡ end + piece-length k → out′ ≡ put-at out end (piece-bytes text k)
-          → SplicedSoFar list starts text n weights places₀ out₀ put places out′ end′ rest
+          → SplicedSoFar list spans text n weights places₀ out₀ put places out′ end′ rest
       spliced-itself {end′} out′ l e =
           let same : end′ ≡ end + length (piece-bytes text k) = omega (arith, size) in
           on stays (piece-bytes text k) places out′ end′ itself e same
-          (subst (λ m. WordsPlaced list starts places out′ m) (sym same) (kept stays (piece-bytes text k) out′ itself e)) refl
+          (subst (λ m. WordsPlaced list spans places out′ m) (sym same) (kept stays (piece-bytes text k) out′ itself e)) refl
 
     -- bytes that stand in the output
-    module _ (from len : ℕ) (stands : StandsBefore out end from len (in-a-row (put-in (stands-to list starts n) (passed .first)))) where
-      long-so : len ≡ length (in-a-row (put-in (stands-to list starts n) (passed .first)))
+    module _ (from len : ℕ) (stands : StandsBefore out end from len (in-a-row (put-in (stands-to list spans n) (passed .first)))) where
+      long-so : len ≡ length (in-a-row (put-in (stands-to list spans n) (passed .first)))
       long-so = omega (arith, ap length (stands .1), stands .0, spliced-end .0, length-take len (drop from out), length-drop from out)
 
       pub copied-room : end + len ≤ length out
       copied-room = omega (arith, roomy refl .0, long-so)
 
       pub spliced-copy : {end′ : ℕ} (out′ : List ℕ) → end′ ≡ end + len → out′ ≡ put-at out end (take len (drop from out))
-          → SplicedSoFar list starts text n weights places₀ out₀ put places out′ end′ rest
+          → SplicedSoFar list spans text n weights places₀ out₀ put places out′ end′ rest
       spliced-copy {end′} out′ l e =
           let same : end′ ≡ end + length (take len (drop from out)) = omega (arith, long-so, ap length (stands .1)) in
           on refl (take len (drop from out)) places out′ end′ (stands .1) e same
-          (subst (λ m. WordsPlaced list starts places out′ m) (sym same) (kept refl (take len (drop from out)) out′ (stands .1) e)) refl
+          (subst (λ m. WordsPlaced list spans places out′ m) (sym same) (kept refl (take len (drop from out)) out′ (stands .1) e)) refl
 
     -- a word that was not written yet
-    module _ {r : ℕ} (found : (r < n) × (put-in (stands-to list starts n) (passed .first) ≡ pieces (linked-word list starts r)))
-        {used : List ℕ} (text-is : used ≡ word-from list (getD starts r 0) .text) where
-      linked-is : linked-text list starts r used ≡ linked-word list starts r
+    module _ {r : ℕ} (found : (r < n) × (put-in (stands-to list spans n) (passed .first) ≡ pieces (linked-word list spans r))) where
+      printed : print (linked-word list spans r) ≡ in-a-row (pieces (linked-word list spans r))
+      printed = print-pieces (linked-word list spans r)
+
+      pub spliced-lower : WritableWord list spans r weights places out end
       unfolding linked-word
-      linked-is = ap (linked-text list starts r) (word-text list starts r text-is)
-
-      printed : print (linked-text list starts r used) ≡ in-a-row (pieces (linked-word list starts r))
-      printed = ap print linked-is ∙ print-pieces (linked-word list starts r)
-
-      pub spliced-lower : Writable list starts used r weights places out end
       spliced-lower =
           record {
-            ready =
+            kept = inv .ready .shelved .kept r (found .0);
+            writable =
                 record {
-                  shelved = shelved-below (omega (arith, found .0)) (inv .ready .shelved);
-                  known = inv .ready .known;
-                  weights-long = omega (arith, found .0, inv .ready .weights-long);
-                  placed = inv .ready .placed;
-                  places-long = omega (arith, found .0, inv .ready .places-long);
+                  ready =
+                      record {
+                        shelved = shelved-below (omega (arith, found .0)) (inv .ready .shelved);
+                        known = inv .ready .known;
+                        weights-long = omega (arith, found .0, inv .ready .weights-long);
+                        placed = inv .ready .placed;
+                        places-long = omega (arith, found .0, inv .ready .places-long);
+                      };
+                  readable = inv .ready .shelved .reads r (found .0);
+                  room = omega (arith, roomy (found .1) .0, ap length printed);
+                  small = omega (arith, roomy (found .1) .1, ap length printed);
                 };
-            readable = subst Readable (sym (word-text list starts r text-is)) (inv .ready .shelved .reads r (found .0));
-            room = omega (arith, roomy (found .1) .0, ap length printed);
-            small = omega (arith, roomy (found .1) .1, ap length printed);
+            long = omega (arith, found .0, inv .ready .places-long);
           }
 
-      module _ {behind : ℕ} (there : behind ≡ end + length (print (linked-text list starts r used))) where
-        pub spliced-behind-small : (behind ≤ printedLimit) × (end ≤ behind)
-        spliced-behind-small = (omega (arith, roomy (found .1) .1, ap length printed, there), omega (arith, there))
+      pub spliced-word : {behind : ℕ} (places′ out′ : List ℕ) → behind ≡ end + length (print (linked-word list spans r))
+          → out′ ≡ put-at out end (print (linked-word list spans r)) → WordsPlaced list spans places′ out′ behind → length places′ ≡ length places
+          → SplicedSoFar list spans text n weights places₀ out₀ put places′ out′ behind rest
+      spliced-word {behind} places′ out′ there e placed long = on (found .1) (print (linked-word list spans r)) places′ out′ behind printed e there placed long
 
-        pub spliced-word : (places₁ places′ out′ : List ℕ) → out′ ≡ put-at out end (print (linked-text list starts r used))
-            → WordsPlaced list starts places₁ out′ behind → length places₁ ≡ length places → places′ ≡ with-note places₁ r end (behind - end)
-            → SplicedSoFar list starts text n weights places₀ out₀ put places′ out′ behind rest
-        spliced-word places₁ places′ out′ e placed long noted-so =
-            let bytes = print (linked-text list starts r used) in
-            let fits : 2 * n ≤ length places = inv .ready .places-long in
-            let below = found .0 in
-            let here : StandsBefore out′ behind end (behind - end) (print (linked-word list starts r)) =
-            subst (λ m. StandsBefore out′ m end (behind - end) (print (linked-word list starts r))) (sym there)
-            (subst (λ l. StandsBefore l (end + length bytes) end (behind - end) (print (linked-word list starts r))) (sym e)
-            (subst (λ b. StandsBefore (put-at out end bytes) (end + length bytes) end (behind - end) b) (ap print linked-is)
-            (stands-here out end (spliced-end .0) bytes (behind - end) (omega (arith, there))))) in
-            let all-placed = noted-right places₁ r end (behind - end) (λ j a b. StandsBefore out′ behind a b (print (linked-word list starts j)))
-            (omega arith) placed here in
-            on (found .1) bytes places′ out′ behind printed e there
-            (λ j a b h. all-placed j a b (ap (λ z. noted z j) (sym noted-so) ∙ h))
-            (ap length noted-so ∙ noted-long places₁ r end (behind - end) ∙ long)
+-- the word of a rank, written as its text is and remembered
+module _ (list spans : List ℕ) (rank : ℕ) {used : List ℕ} {weights places out : List ℕ} {put : ℕ} (can : WritableWord list spans rank weights places out put)
+    (text-is : used ≡ word-of list spans rank .text) where
+  linked-is : linked-text list spans rank used ≡ linked-word list spans rank
+  unfolding linked-word
+  linked-is = ap (linked-text list spans rank) text-is
+
+  pub word-writable : Writable list spans used rank weights places out put
+  word-writable = subst (λ l. Writable list spans l rank weights places out put) (sym text-is) (can .writable)
+
+  module _ {behind : ℕ} (there : behind ≡ put + length (print (linked-text list spans rank used))) where
+    -- its places are small numbers
+    pub word-small : (put ≤ printedLimit) × (put ≤ behind) × (behind ≤ printedLimit)
+    word-small = (omega (arith, word-writable .small), omega (arith, there), omega (arith, there, word-writable .small))
+
+    pub word-written : (places₁ places′ out′ : List ℕ) → out′ ≡ put-at out put (print (linked-text list spans rank used))
+        → WordsPlaced list spans places₁ out′ behind → length places₁ ≡ length places → places′ ≡ with-note places₁ rank put (behind - put)
+        → (behind ≡ put + length (print (linked-word list spans rank)))
+        × ((out′ ≡ put-at out put (print (linked-word list spans rank))) × (WordsPlaced list spans places′ out′ behind × (length places′ ≡ length places)))
+    word-written places₁ places′ out′ e placed long noted-so =
+        let bytes = print (linked-text list spans rank used) in
+        let same = ap print linked-is in
+        let here : StandsBefore out′ behind put (behind - put) (print (linked-word list spans rank)) =
+        subst (λ m. StandsBefore out′ m put (behind - put) (print (linked-word list spans rank))) (sym there)
+        (subst (λ l. StandsBefore l (put + length bytes) put (behind - put) (print (linked-word list spans rank))) (sym e)
+        (subst (λ b. StandsBefore (put-at out put bytes) (put + length bytes) put (behind - put) b) same
+        (stands-here out put (omega (arith, word-writable .room)) bytes (behind - put) (omega (arith, there))))) in
+        let all = noted-right places₁ rank put (behind - put) (λ j a b. StandsBefore out′ behind a b (print (linked-word list spans j)))
+        (omega (arith, can .long)) placed here in (
+          there ∙ ap (λ b. put + length b) same,
+          (
+            e ∙ ap (put-at out put) same,
+            (λ j a b h. all j a b (ap (λ z. noted z j) (sym noted-so) ∙ h), ap length noted-so ∙ noted-long places₁ rank put (behind - put) ∙ long),
+          ),
+        )

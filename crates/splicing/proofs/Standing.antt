@@ -5,7 +5,7 @@ use mathlib.Core.List.{List, _++_, append-assoc}
 use native.Mathlib.Omega.{arith}
 use lib.ListN.{drop, length, take}
 use lib.Seq.{drop-at, length-take-le, take-add, take-append-le, take-append-seam, take-take}
-use Rattle.pieces.specs.Written.{put-at}
+use Rattle.kinds.specs.Written.{put-at}
 use Rattle.splicing.specs.Splicing.{StandsBefore}
 
 module _ (out : List ℕ) (put : ℕ) (here : put ≤ length out) (bytes : List ℕ) where

@@ -7,9 +7,12 @@ use lib.ListN.{length, take, drop}
 use Rattle.kinds.specs.Limits.{cellLimit, tokenLimit}
 use Rattle.plan.specs.Plan.{print}
 use Rattle.plan.specs.Pieces.{Piece, in-a-row, pieces}
+use Rattle.pieces.specs.Written.{Is}
+use Rattle.pieces.specs.declared.Piece.{Piece as CodePiece}
 use Rattle.words.specs.Places.{put-in}
 use Rattle.shelf.specs.Notes.{noted}
-use Rattle.shelf.specs.Shelf.{Readable, Shelved, linked-text, linked-word, stands-to}
+use Rattle.shelf.specs.Shelf.{Readable, Shelved, linked-text, linked-word, stands-to, word-of}
+use Rattle.shelf.specs.Spans.{WordKept}
 use Rattle.shelf.specs.declared.Noted.the-variants.{Both}
 use Rattle.measuring.specs.Weights.{WeightsKnown}
 use Rattle.splicing.specs.declared.ToPut.{ToPut}
@@ -24,32 +27,48 @@ abbrev pub StandsBefore : (out : List ℕ) → (put from len : ℕ) → List ℕ
 StandsBefore out put from len bytes = (from + len ≤ put) × (take len (drop from out) ≡ bytes)
 
 -- what is remembered of a word is where its linked text stands
-abbrev pub WordsPlaced : (list starts places out : List ℕ) → (put : ℕ) → Type 0
-WordsPlaced list starts places out put = (r a b : ℕ) → noted places r ≡ Both a b → StandsBefore out put a b (print (linked-word list starts r))
+abbrev pub WordsPlaced : (list spans places out : List ℕ) → (put : ℕ) → Type 0
+WordsPlaced list spans places out put = (r a b : ℕ) → noted places r ≡ Both a b → StandsBefore out put a b (print (linked-word list spans r))
 
 -- the words of the ranks below n, and what is remembered of them
-pub record WordsReady (list starts : List ℕ) (n : ℕ) (weights places out : List ℕ) (put : ℕ) : Type 0 where
-  pub shelved : Shelved list starts n
-  pub known : WeightsKnown list starts weights
+pub record WordsReady (list spans : List ℕ) (n : ℕ) (weights places out : List ℕ) (put : ℕ) : Type 0 where
+  pub shelved : Shelved list spans n
+  pub known : WeightsKnown list spans weights
   pub weights-long : 2 * n ≤ length weights
-  pub placed : WordsPlaced list starts places out put
+  pub placed : WordsPlaced list spans places out put
   pub places-long : 2 * n ≤ length places
 
 -- a text can be written, linked by them
-pub record Writable (list starts text : List ℕ) (n : ℕ) (weights places out : List ℕ) (put : ℕ) : Type 0 where
-  pub ready : WordsReady list starts n weights places out put
+pub record Writable (list spans text : List ℕ) (n : ℕ) (weights places out : List ℕ) (put : ℕ) : Type 0 where
+  pub ready : WordsReady list spans n weights places out put
   pub readable : Readable text
-  pub room : put + length (print (linked-text list starts n text)) ≤ length out
-  pub small : put + length (print (linked-text list starts n text)) ≤ printedLimit
+  pub room : put + length (print (linked-text list spans n text)) ≤ length out
+  pub small : put + length (print (linked-text list spans n text)) ≤ printedLimit
+
+-- the word of a rank can be written, and remembered
+pub record WritableWord (list spans : List ℕ) (rank : ℕ) (weights places out : List ℕ) (put : ℕ) : Type 0 where
+  pub kept : WordKept list spans rank
+  pub writable : Writable list spans (word-of list spans rank .text) rank weights places out put
+  pub long : 2 * rank + 1 < length places
 
 -- what is put for a word: bytes that stand in the output, none at all among them; or the word, which was not written yet
-abbrev pub WordTells : (list starts : List ℕ) → (out : List ℕ) → (put rank : ℕ) → ToPut → Type 0
-WordTells list starts out put rank Itself = ⊥
-WordTells list starts out put rank (Copy from len) = StandsBefore out put from len (print (linked-word list starts rank))
-WordTells list starts out put rank (Word r) = r ≡ rank
+abbrev pub WordTells : (list spans : List ℕ) → (out : List ℕ) → (put rank : ℕ) → ToPut → Type 0
+WordTells list spans out put rank Itself = ⊥
+WordTells list spans out put rank (Copy from len) = StandsBefore out put from len (print (linked-word list spans rank))
+WordTells list spans out put rank (Word r) = r ≡ rank
 
 -- .. and for a piece
-abbrev pub ToPutTells : (list starts : List ℕ) → (n : ℕ) → (out : List ℕ) → (put : ℕ) → ToPut → Piece ℕ → Type 0
-ToPutTells list starts n out put Itself x = put-in (stands-to list starts n) x ≡ x ∷ []
-ToPutTells list starts n out put (Copy from len) x = StandsBefore out put from len (in-a-row (put-in (stands-to list starts n) x))
-ToPutTells list starts n out put (Word r) x = (r < n) × (put-in (stands-to list starts n) x ≡ pieces (linked-word list starts r))
+abbrev pub ToPutTells : (list spans : List ℕ) → (n : ℕ) → (out : List ℕ) → (put : ℕ) → ToPut → Piece ℕ → Type 0
+ToPutTells list spans n out put Itself x = put-in (stands-to list spans n) x ≡ x ∷ []
+ToPutTells list spans n out put (Copy from len) x = StandsBefore out put from len (in-a-row (put-in (stands-to list spans n) x))
+ToPutTells list spans n out put (Word r) x = (r < n) × (put-in (stands-to list spans n) x ≡ pieces (linked-word list spans r))
+
+-- so it is said of a word, and of a piece of a text, where what is remembered is right
+abbrev pub TellsForWord : (weights places : List ℕ) → (rank : ℕ) → ToPut → Type 0
+TellsForWord weights places rank r =
+    (list spans out : List ℕ) (put : ℕ) → WeightsKnown list spans weights → WordsPlaced list spans places out put → WordTells list spans out put rank r
+
+abbrev pub TellsForPiece : (list spans text : List ℕ) → (n : ℕ) → (weights places : List ℕ) → CodePiece → ToPut → Type 0
+TellsForPiece list spans text n weights places piece r =
+    (out : List ℕ) (put : ℕ) (x : Piece ℕ) → WeightsKnown list spans weights → WordsPlaced list spans places out put → Is text piece x
+    → ToPutTells list spans n out put r x

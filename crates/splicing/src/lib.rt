@@ -6,12 +6,12 @@ ghost use Prim.Native.Nat.{ℕ, _+_, _≤_, _<_, _*_};
 ghost use mathlib.Core.Bool.{true};
 ghost use mathlib.Core.List.{List, []};
 ghost use lib.ListN.{length, take, drop};
-ghost use Rattle.plan.specs.Pieces.{Piece as PlanPiece};
 ghost use Rattle.plan.specs.Plan.{print};
-ghost use Rattle.pieces.specs.Written.{InText, Is, piece-bytes, piece-length, put-at};
+ghost use Rattle.kinds.specs.Written.{put-at};
+ghost use Rattle.pieces.specs.Written.{InText, piece-bytes, piece-length};
 ghost use Rattle.shelf.specs.Shelf.{PieceStands, Shelved, linked-text, linked-word};
 ghost use Rattle.measuring.specs.Weights.{WeightsKnown};
-ghost use Rattle.splicing.specs.Splicing.{WordsPlaced, ToPutTells, WordTells, Writable};
+ghost use Rattle.splicing.specs.Splicing.{TellsForPiece, TellsForWord, WordsPlaced, Writable, WritableWord};
 use items::Cursor;
 use items::NextPiece;
 use items::next;
@@ -22,7 +22,7 @@ use shelf::Noted;
 use shelf::find_piece;
 use shelf::note;
 use shelf::recall;
-use shelf::text_at;
+use shelf::text_of;
 
 // What is put for a piece: the piece itself, bytes that stand in the output already, or a word that was not written yet.
 pub enum ToPut {
@@ -58,7 +58,7 @@ fn copy_on(out: &mut [u8], from: usize, len: usize, put: usize) -> usize
 // Whether a word was weighed and links to nothing.
 fn is_nothing(weights: &[u32], word: u32) -> bool
     requires { ⌜ 2 * word + 1 < length (now weights) ⌝ }
-    ensures { λ r. ⌜ ((list starts : List ℕ) → WeightsKnown list starts (now (weights .entry)) → r ≡ true → print (linked-word list starts word) ≡ []) ⌝ }
+    ensures { λ r. ⌜ ((list spans : List ℕ) → WeightsKnown list spans (now (weights .entry)) → r ≡ true → print (linked-word list spans word) ≡ []) ⌝ }
 {
     match recall(weights, word) {
         Noted::Nothing => false,
@@ -69,7 +69,7 @@ fn is_nothing(weights: &[u32], word: u32) -> bool
 // What is put for a word.
 fn put_for_word(weights: &[u32], places: &[u32], word: u32) -> ToPut
     requires { ⌜ (2 * word + 1 < length (now weights)) × (2 * word + 1 < length (now places)) ⌝ }
-    ensures { λ r. ⌜ ((list starts out : List ℕ) (put : ℕ) → WeightsKnown list starts (now (weights .entry)) → WordsPlaced list starts (now (places .entry)) out put → WordTells list starts out put word r) ⌝ }
+    ensures { λ r. ⌜ TellsForWord (now (weights .entry)) (now (places .entry)) word r ⌝ }
 {
     if is_nothing(weights, word) {
         return ToPut::Copy { from: 0, len: 0 };
@@ -86,27 +86,49 @@ fn put_for_word(weights: &[u32], places: &[u32], word: u32) -> ToPut
 // What is put for a piece.
 fn put_for(
     list: &[u8],
-    starts: &[u32],
+    spans: &[u32],
     text: &[u8],
     below: u32,
     weights: &[u32],
     places: &[u32],
     piece: Piece,
 ) -> ToPut
-    requires { ⌜ Shelved (now list) (now starts) below × (2 * below ≤ length (now weights)) × (2 * below ≤ length (now places)) × PieceStands (now text) piece ⌝ }
-    ensures { λ r. ⌜ ((out : List ℕ) (put : ℕ) (x : PlanPiece ℕ) → WeightsKnown (now (list .entry)) (now (starts .entry)) (now (weights .entry)) → WordsPlaced (now (list .entry)) (now (starts .entry)) (now (places .entry)) out put → Is (now (text .entry)) piece x → ToPutTells (now (list .entry)) (now (starts .entry)) below out put r x) ⌝ }
+    requires { ⌜ Shelved (now list) (now spans) below × (2 * below ≤ length (now weights)) × (2 * below ≤ length (now places)) × PieceStands (now text) piece ⌝ }
+    ensures { λ r. ⌜ TellsForPiece (now (list .entry)) (now (spans .entry)) (now (text .entry)) below (now (weights .entry)) (now (places .entry)) piece r ⌝ }
 {
-    match find_piece(list, starts, below, text, piece) {
+    match find_piece(list, spans, below, text, piece) {
         Named::Unlisted => ToPut::Itself,
         Named::Listed(word) => put_for_word(weights, places, word),
     }
 }
 
+// Writes a word that was not written yet, by the words before it, remembers where it stands, and gives the place behind it.
+fn write_word(
+    list: &[u8],
+    spans: &[u32],
+    word: u32,
+    weights: &[u32],
+    places: &mut [u32],
+    out: &mut [u8],
+    put: usize,
+) -> usize
+    requires { ⌜ WritableWord (now list) (now spans) word (now weights) (now places) (now out) put ⌝ }
+    ensures behind { λ r. ⌜ r ≡ put + length (print (linked-word (now (list .entry)) (now (spans .entry)) word)) ⌝ }
+    ensures written { λ r. ⌜ now (out .exit) ≡ put-at (now (out .entry)) put (print (linked-word (now (list .entry)) (now (spans .entry)) word)) ⌝ }
+    ensures placed { λ r. ⌜ WordsPlaced (now (list .entry)) (now (spans .entry)) (now (places .exit)) (now (out .exit)) r ⌝ }
+    ensures as_long { λ r. ⌜ length (now (places .exit)) ≡ length (now (places .entry)) ⌝ }
+{
+    let used = text_of(list, spans, word);
+    let behind = write(list, spans, used, word, weights, places, out, put);
+    note(places, word, put as u32, (behind - put) as u32);
+    behind
+}
+
 // Writes a text's plan, linked by the words of the ranks below a bound, and gives the place behind it. A word that it uses and that was not
-// written yet is written by this same function: its rank is smaller, so this ends.
+// written yet is written in the same way: its rank is smaller, so this ends.
 pub fn write(
     list: &[u8],
-    starts: &[u32],
+    spans: &[u32],
     text: &[u8],
     below: u32,
     weights: &[u32],
@@ -114,10 +136,10 @@ pub fn write(
     out: &mut [u8],
     put: usize,
 ) -> usize
-    requires { ⌜ Writable (now list) (now starts) (now text) below (now weights) (now places) (now out) put ⌝ }
-    ensures behind { λ r. ⌜ r ≡ put + length (print (linked-text (now (list .entry)) (now (starts .entry)) below (now (text .entry)))) ⌝ }
-    ensures written { λ r. ⌜ now (out .exit) ≡ put-at (now (out .entry)) put (print (linked-text (now (list .entry)) (now (starts .entry)) below (now (text .entry)))) ⌝ }
-    ensures placed { λ r. ⌜ WordsPlaced (now (list .entry)) (now (starts .entry)) (now (places .exit)) (now (out .exit)) r ⌝ }
+    requires { ⌜ Writable (now list) (now spans) (now text) below (now weights) (now places) (now out) put ⌝ }
+    ensures behind { λ r. ⌜ r ≡ put + length (print (linked-text (now (list .entry)) (now (spans .entry)) below (now (text .entry)))) ⌝ }
+    ensures written { λ r. ⌜ now (out .exit) ≡ put-at (now (out .entry)) put (print (linked-text (now (list .entry)) (now (spans .entry)) below (now (text .entry)))) ⌝ }
+    ensures placed { λ r. ⌜ WordsPlaced (now (list .entry)) (now (spans .entry)) (now (places .exit)) (now (out .exit)) r ⌝ }
     ensures as_long { λ r. ⌜ length (now (places .exit)) ≡ length (now (places .entry)) ⌝ }
 {
     let mut end = put;
@@ -126,15 +148,11 @@ pub fn write(
         match next(text, cursor) {
             NextPiece::End => return end,
             NextPiece::Piece { piece, at, rest } => {
-                match put_for(list, starts, text, below, weights, places, piece) {
+                match put_for(list, spans, text, below, weights, places, piece) {
                     ToPut::Itself => end = put_itself(text, piece, out, end),
                     ToPut::Copy { from, len } => end = copy_on(out, from, len, end),
                     ToPut::Word(word) => {
-                        let place = starts[word as usize] as usize;
-                        let used = text_at(list, place);
-                        let behind = write(list, starts, used, word, weights, places, out, end);
-                        note(places, word, end as u32, (behind - end) as u32);
-                        end = behind;
+                        end = write_word(list, spans, word, weights, places, out, end);
                     }
                 }
                 cursor = rest;

@@ -9,8 +9,8 @@ use borrow.Author.Tests.{le-leb, le-ltb, lt-leb, lt-ltb}
 use lib.Dec.{leb}
 use lib.ListN.{length, drop, getD, drop-of-length-le}
 use lib.Seq.{drop-cons}
-use Rattle.filing.specs.Rules.{digits, is-job}
-use Rattle.plan.proofs.Tests.{and-false}
+use Rattle.filing.specs.Rules.{digits, is-job, jobLimit}
+use Rattle.kinds.proofs.Tests.{and-false}
 
 pub record DigitsSoFar (job : List ℕ) (at : ℕ) : Type 0 where
   pub within : at ≤ length job
@@ -50,12 +50,12 @@ module _ {job : List ℕ} {at : ℕ} (d : DigitsSoFar job at) where
 module _ (job : List ℕ) where
   pub job-empty : length job ≡ 0 → false ≡ is-job job
   unfolding is-job
-  job-empty e = sym (ap (λ t. (t && leb (length job) 10) && digits job) (le-ltb 0 (length job) (omega arith)))
+  job-empty e = sym (ap (λ t. (t && leb (length job) jobLimit) && digits job) (le-ltb 0 (length job) (omega arith)))
 
-  pub job-long : length job ≢ 0 → 10 < length job → false ≡ is-job job
+  pub job-long : length job ≢ 0 → jobLimit < length job → false ≡ is-job job
   unfolding is-job
-  job-long h l = sym (ap₂ (λ s t. (s && t) && digits job) (lt-ltb 0 (length job) (omega arith)) (lt-leb (length job) 10 l))
+  job-long h l = sym (ap₂ (λ s t. (s && t) && digits job) (lt-ltb 0 (length job) (omega arith)) (lt-leb (length job) jobLimit l))
 
-  pub job-digits : length job ≢ 0 → length job ≤ 10 → digits job ≡ is-job job
+  pub job-digits : length job ≢ 0 → length job ≤ jobLimit → digits job ≡ is-job job
   unfolding is-job
-  job-digits h l = sym (ap₂ (λ s t. (s && t) && digits job) (lt-ltb 0 (length job) (omega arith)) (le-leb (length job) 10 l))
+  job-digits h l = sym (ap₂ (λ s t. (s && t) && digits job) (lt-ltb 0 (length job) (omega arith)) (le-leb (length job) jobLimit l))

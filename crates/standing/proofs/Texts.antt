@@ -1,4 +1,4 @@
--- What was told of a text: whether it is a printed one, and that it can be asked whether it is finished.
+-- What was told of a text: whether it is a printed one.
 use Prim.Native.Nat.{ℕ}
 use mathlib.Core.Path.{_≡_, refl, ap, sym, _∙_}
 use mathlib.Core.Logic.{_≢_}
@@ -7,19 +7,15 @@ use mathlib.Core.List.{List}
 use borrow.Author.Tests.{eqb-false, eqb-true}
 use lib.Dec.{eqb}
 use lib.ListN.{length}
-use Rattle.kinds.specs.Limits.{cellLimit, standard, tokenLimit}
-use Rattle.plan.specs.Plan.{Plan, print}
-use Rattle.plan.specs.Pieces.{Shows, pieces}
-use Rattle.rules.specs.Rewriting.{finished}
-use Rattle.plan.specs.Read.{acceptable}
+use Rattle.kinds.specs.Limits.{cellLimit, standard}
+use Rattle.plan.specs.Plan.{print}
 use Rattle.plan.specs.Reading.{OUTSIDE, accept}
 use Rattle.plan.specs.declared.Unread.{Unread}
 use Rattle.plan.proofs.Acceptable.{AcceptableText, acceptable-plan}
 use Rattle.plan.proofs.Faultless.{without-marks-same}
-use Rattle.filing.specs.Rules.{is-finished, is-printed}
-use Rattle.filing.proofs.Texts.{finished-by-plan, printed-by-plan, unacceptable-not-finished, unacceptable-not-printed}
+use Rattle.filing.specs.Rules.{is-printed}
+use Rattle.filing.proofs.Texts.{printed-by-plan, unacceptable-not-printed}
 use Rattle.stored.proofs.Same.{same-false, same-true}
-use Rattle.finished.specs.Pieces.{ShowsPlan}
 use Rattle.read.specs.Accepted.{accepted-as}
 use Rattle.read.specs.declared.Acceptance.{Acceptance}
 use Rattle.read.specs.declared.Acceptance.the-variants.{Accepted, NotRead}
@@ -52,15 +48,3 @@ module _ (text : List ℕ) where
 
     pub printed-refused : {u : Unread} → r ≡ NotRead u → false ≡ is-printed standard text
     printed-refused e = sym (unacceptable-not-printed standard text (told-unacceptable text told e))
-
-  module _ {t : Bool} (told : t ≡ acceptable standard text) where
-    pub finished-ready : t ≡ true → ShowsPlan text
-    finished-ready e =
-        let a = acceptable-plan standard text (sym told ∙ e) in record { short = a .short; plan = a .plan; shows = a .shows }
-
-    pub finished-told : t ≡ true → {f : Bool} → ((p : Plan ℕ) → Shows tokenLimit 0 text (pieces p) → f ≡ finished p) → f ≡ is-finished standard text
-    finished-told e h =
-        let a = acceptable-plan standard text (sym told ∙ e) in h (a .plan) (a .shows) ∙ sym (finished-by-plan standard text (a .accepted))
-
-    pub finished-refused : t ≡ false → false ≡ is-finished standard text
-    finished-refused e = sym (unacceptable-not-finished standard text (sym told ∙ e))

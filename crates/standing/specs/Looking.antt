@@ -2,7 +2,7 @@
 use Prim.Native.Nat.{ℕ, _≤_}
 use mathlib.Core.List.{List}
 use lib.ListN.{length}
-use Rattle.entries.specs.Entries.{SpanWithin, part}
+use Rattle.stored.specs.Spans.{SpanWithin, part}
 use Rattle.filing.specs.Rules.{JobStanding, UNFILED, FILED-AT, DONE-AT}
 use Rattle.standing.specs.declared.StandingAt.{StandingAt}
 use Rattle.standing.specs.declared.StandingAt.the-variants.{Unfiled, Filed as FiledAt, Done as DoneAt}

@@ -1,22 +1,23 @@
 // How a job stands in a roll, and what its job numbers and texts must be.
 ghost use mathlib.Core.Path.{_≡_};
-ghost use mathlib.Core.List.{List, reverse};
 ghost use Prim.Native.Nat.{_≤_};
 ghost use lib.ListN.{length};
 ghost use Rattle.kinds.specs.Limits.{standard};
-ghost use Rattle.filing.specs.Format.{Entry};
 ghost use Rattle.stored.specs.Same.{same};
-ghost use Rattle.filing.specs.Rules.{digits, is-finished, is-job, is-printed, newest, standing};
-ghost use Rattle.filing.specs.EntriesStand.{EntriesStand};
-ghost use Rattle.entries.specs.Entries.{EntryWithin, SpanWithin, part, says-told};
+ghost use Rattle.stored.specs.Spans.{SpanWithin, part};
+ghost use Rattle.filing.specs.Rules.{digits, is-job, is-printed, newest, standing};
+ghost use Rattle.filing.specs.EntriesStand.{Behind, StandsBefore};
+ghost use Rattle.entries.specs.Entries.{EntryWithin, says-told};
 ghost use Rattle.standing.specs.Looking.{StandingWithin, standing-told};
 use entries::EntryAt;
-use entries::Span;
 use entries::entry_at;
 use entries::next_of;
+use filing::EntryKind;
+use filing::JOB_LIMIT;
 use read::Acceptance;
 use read::acceptance_of;
-use read::is_acceptable;
+use stored::Span;
+use stored::part;
 
 // The bytes `0` to `9`, and nothing else.
 fn are_digits(job: &[u8]) -> bool
@@ -35,14 +36,14 @@ fn are_digits(job: &[u8]) -> bool
     true
 }
 
-// A job number: 1 to 10 digits.
+// A job number: one digit at least, and not too many.
 pub fn is_job(job: &[u8]) -> bool
     ensures { λ r. ⌜ r ≡ is-job (now (job .entry)) ⌝ }
 {
     if job.len() == 0 {
         return false;
     }
-    if 10 < job.len() {
+    if JOB_LIMIT < job.len() {
         return false;
     }
     are_digits(job)
@@ -58,16 +59,6 @@ pub fn is_printed(text: &[u8]) -> bool
     }
 }
 
-// An acceptable text whose plan has no ready operator.
-pub fn reads_finished(text: &[u8]) -> bool
-    ensures { λ r. ⌜ r ≡ is-finished standard (now (text .entry)) ⌝ }
-{
-    if is_acceptable(text) {
-        return finished::is_finished(text);
-    }
-    false
-}
-
 // How a job stands: not filed, filed last by the entry at a place, with its text, or done by the entry at a place.
 pub enum StandingAt {
     Unfiled,
@@ -80,12 +71,7 @@ fn same_job(roll: &[u8], found: Span, job: &[u8]) -> bool
     requires { ⌜ SpanWithin (now roll) found ⌝ }
     ensures { λ r. ⌜ r ≡ same (part (now (roll .entry)) found) (now (job .entry)) ⌝ }
 {
-    if found.len != job.len() {
-        return false;
-    }
-    let end = found.at + found.len;
-    let from = end - job.len();
-    check::same(&roll[from..end], job)
+    check::same(part(roll, found), job)
 }
 
 // How the job stands behind one entry more.
@@ -97,31 +83,32 @@ fn newest(roll: &[u8], at: usize, entry: EntryAt, job: &[u8], older: StandingAt)
     match entry {
         EntryAt::Torn => older,
         EntryAt::Other { next } => older,
-        EntryAt::Done { job: found, next } => {
-            if same_job(roll, found, job) {
-                return StandingAt::Done { at };
-            }
-            older
-        }
-        EntryAt::Filed {
+        EntryAt::Known {
+            kind,
             job: found,
             text,
             next,
         } => {
-            if same_job(roll, found, job) {
-                return StandingAt::Filed { at, text };
+            if !same_job(roll, found, job) {
+                return older;
             }
-            older
+            match kind {
+                EntryKind::Filed => StandingAt::Filed { at, text },
+                EntryKind::Done => StandingAt::Done { at },
+            }
         }
     }
 }
 
-// How a job stands by the entries up to a place.
+// How a job stands by the entries before a place; before 0, in a roll of no bytes, there is none.
 pub fn look_back(roll: &[u8], upto: usize, job: &[u8]) -> StandingAt
-    requires { ⌜ ((es : List Entry) × EntriesStand (now roll) 1 es upto) ⌝ }
+    requires { ⌜ StandsBefore (now roll) upto ⌝ }
     ensures within { λ r. ⌜ StandingWithin (now (roll .entry)) r ⌝ }
-    ensures told { λ r. ⌜ ((es : List Entry) → EntriesStand (now (roll .entry)) 1 es upto → standing-told (now (roll .entry)) r ≡ standing (now (job .entry)) (reverse es)) ⌝ }
+    ensures told { λ r. ⌜ Behind (now (roll .entry)) upto (λ past. standing-told (now (roll .entry)) r ≡ standing (now (job .entry)) past) ⌝ }
 {
+    if upto == 0 {
+        return StandingAt::Unfiled;
+    }
     let mut at: usize = 1;
     let mut found = StandingAt::Unfiled;
     while at != upto {

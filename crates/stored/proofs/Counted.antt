@@ -8,16 +8,14 @@ use borrow.Author.Tests.{leb-true}
 use lib.Dec.{leb}
 use lib.ListN.{length, take, drop, getD, length-drop}
 use lib.Seq.{drop-cons}
-use Rattle.stored.specs.Counted.{AtFront, CUT, FRONT, four, number, so-many, then-read}
-
-pub never : {A : Type 0} {a : A} {rest : List ℕ} → CUT ≡ FRONT a rest → ⊥
-never e = let z : _≡_ {A = ℕ} 0 1 = cc in omega arith
+use Rattle.kinds.proofs.Tests.{never}
+use Rattle.stored.specs.Counted.{AtFront, CUT, FRONT, counted, four, number, so-many, then-read, two-counted}
 
 -- one thing and then another was read: the first left what the second was read from
 pub then-parts : {A B : Type 0} (x : AtFront A) (go : A → List ℕ → AtFront B) {b : B} {rest : List ℕ} → then-read x go ≡ FRONT b rest
     → (a : A) × (between : List ℕ) × (x ≡ FRONT a between) × (go a between ≡ FRONT b rest)
 unfolding then-read
-then-parts CUT go e = absurd (never e)
+then-parts CUT go e = never cc
 then-parts (FRONT a between) go e = (a, between, refl, e)
 
 -- a number at a place
@@ -51,10 +49,10 @@ number-cut bytes at h = short-number (drop at bytes) (omega (arith, length-drop 
 -- what a number at the front leaves behind it
 pub number-front : (bs : List ℕ) {n : ℕ} {rest : List ℕ} → number bs ≡ FRONT n rest → (4 ≤ length bs) × (rest ≡ drop 4 bs)
 unfolding number
-number-front [] e = absurd (never e)
-number-front (a ∷ []) e = absurd (never e)
-number-front (a ∷ b ∷ []) e = absurd (never e)
-number-front (a ∷ b ∷ c ∷ []) e = absurd (never e)
+number-front [] e = never cc
+number-front (a ∷ []) e = never cc
+number-front (a ∷ b ∷ []) e = never cc
+number-front (a ∷ b ∷ c ∷ []) e = never cc
 number-front (a ∷ b ∷ c ∷ d ∷ bs) {n} {rest} e = (omega arith, let same : rest ≡ bs = cc in same)
 
 -- a run that is there
@@ -64,4 +62,19 @@ so-many-parts n bs {run} {rest} e = go (leb n (length bs)) refl e
   where
     go : (t : Bool) → leb n (length bs) ≡ t → cond t (FRONT (take n bs) (drop n bs)) CUT ≡ FRONT run rest → (n ≤ length bs) × (run ≡ take n bs) × (rest ≡ drop n bs)
     go true h e = (leb-true n (length bs) h, let same : run ≡ take n bs = cc in same, let same : rest ≡ drop n bs = cc in same)
-    go false h e = absurd (never e)
+    go false h e = never cc
+
+-- two runs: whatever they are put together to
+module _ {A : Type 0} (f : List ℕ → List ℕ → A) (bs : List ℕ) where
+  pub two-first-cut : counted bs ≡ CUT → two-counted f bs ≡ CUT
+  unfolding two-counted then-read
+  two-first-cut e = rw e refl
+
+  module _ {one rest : List ℕ} (e : counted bs ≡ FRONT one rest) where
+    pub two-second-cut : counted rest ≡ CUT → two-counted f bs ≡ CUT
+    unfolding two-counted then-read
+    two-second-cut g = rw (e, g) refl
+
+    pub two-whole : {two later : List ℕ} → counted rest ≡ FRONT two later → two-counted f bs ≡ FRONT (f one two) later
+    unfolding two-counted then-read
+    two-whole g = rw (e, g) refl

@@ -1,16 +1,25 @@
 -- What the code finds at a place is what stands at the front of the bytes from there on.
 use Prim.Native.Nat.{ℕ, _+_, _-_, _≤_, _<_}
-use mathlib.Core.Path.{_≡_, refl, ap, ap₂, sym, _∙_}
+use mathlib.Core.Path.{_≡_, refl, ap, ap₂, sym, subst, _∙_}
 use mathlib.Core.List.{List}
 use native.Mathlib.Omega.{arith}
 use borrow.Author.Tests.{le-leb, lt-leb}
 use lib.ListN.{length, take, drop, getD, length-drop}
 use lib.Seq.{drop-drop, length-take-le}
+use Rattle.kinds.proofs.Tests.{never}
 use Rattle.stored.specs.Counted.{AtFront, CUT, FRONT, counted, four, number, so-many, then-read}
 use Rattle.stored.specs.Places.{number-at, number-told, run-at, run-told}
+use Rattle.stored.specs.Spans.{SpanWithin, part, span}
+use Rattle.stored.specs.declared.Span.{Span}
 use Rattle.stored.specs.declared.NumberAt.the-variants.{Cut as NumberCut, Whole as WholeNumber}
 use Rattle.stored.specs.declared.RunAt.the-variants.{Cut as RunCut, Whole as WholeRun}
 use Rattle.stored.proofs.Counted.{number-cut, number-front, number-whole, so-many-parts, then-parts}
+
+-- what a run that is found says of the bytes: its own stand behind its count, and the rest behind them
+pub record RunFound (bytes : List ℕ) (at : ℕ) (s : Span) : Type 0 where
+  pub place : s .at ≡ at + 4
+  pub within : SpanWithin bytes s
+  pub front : counted (drop at bytes) ≡ FRONT (part bytes s) (drop (s .at + s .len) bytes)
 
 module _ (bytes : List ℕ) (at : ℕ) where
   pub number-at-cut : length bytes < at + 4 → NumberCut ≡ number-at bytes at
@@ -28,7 +37,7 @@ module _ (bytes : List ℕ) (at : ℕ) where
   number-found {n} e = go (number (drop at bytes)) refl e
     where
       go : (x : AtFront ℕ) → number (drop at bytes) ≡ x → number-told x ≡ WholeNumber n → (at + 4 ≤ length bytes) × (number (drop at bytes) ≡ FRONT n (drop (at + 4) bytes))
-      go CUT h told = absurd (let z : _≡_ {A = ℕ} 0 1 = cc in omega arith)
+      go CUT h told = never cc
       go (FRONT m rest) h told =
           let (long, behind) = number-front (drop at bytes) h in
           let same : m ≡ n = cc in
@@ -40,7 +49,7 @@ module _ (bytes : List ℕ) (at : ℕ) where
     where
       go : (x : AtFront ℕ) → number (drop at bytes) ≡ x → number-told x ≡ NumberCut → number (drop at bytes) ≡ CUT
       go CUT h told = h
-      go (FRONT n rest) h told = absurd (let z : _≡_ {A = ℕ} 0 1 = cc in omega arith)
+      go (FRONT n rest) h told = never cc
 
   -- a run is cut with its count, or behind it, or whole
   pub run-at-cut : number-at bytes at ≡ NumberCut → RunCut ≡ run-at bytes at
@@ -49,7 +58,7 @@ module _ (bytes : List ℕ) (at : ℕ) where
     where
       go : (x : AtFront ℕ) → number-told x ≡ NumberCut → RunCut ≡ run-told at (then-read x so-many)
       go CUT told = refl
-      go (FRONT m rest) told = absurd (let z : _≡_ {A = ℕ} 0 1 = cc in omega arith)
+      go (FRONT m rest) told = never cc
 
   module _ {n : ℕ} (found : number-at bytes at ≡ WholeNumber n) where
     counted-so : counted (drop at bytes) ≡ so-many n (drop (at + 4) bytes)
@@ -60,20 +69,20 @@ module _ (bytes : List ℕ) (at : ℕ) where
     unfolding run-at so-many
     run-at-short h = sym (ap (run-told at) counted-so ∙ rw (lt-leb n (length (drop (at + 4) bytes)) (omega (arith, length-drop (at + 4) bytes))) refl)
 
-    pub run-at-whole : n ≤ length bytes - (at + 4) → WholeRun (at + 4) n ≡ run-at bytes at
+    pub run-at-whole : n ≤ length bytes - (at + 4) → WholeRun (span (at + 4) n) ≡ run-at bytes at
     unfolding run-at so-many
     run-at-whole h =
         let within : n ≤ length (drop (at + 4) bytes) = omega (arith, length-drop (at + 4) bytes) in
-        sym (ap (run-told at) counted-so ∙ rw (le-leb n (length (drop (at + 4) bytes)) within) (ap (WholeRun (at + 4)) (length-take-le n (drop (at + 4) bytes) within)))
+        sym (ap (run-told at) counted-so ∙ rw (le-leb n (length (drop (at + 4) bytes)) within) (ap (λ k. WholeRun (span (at + 4) k)) (length-take-le n (drop (at + 4) bytes) within)))
 
-  -- and what a run that is found, or not, says of the bytes
+  -- and what the code's answer says of the bytes
   pub run-lost : run-at bytes at ≡ RunCut → counted (drop at bytes) ≡ CUT
   unfolding run-at
   run-lost e = go (counted (drop at bytes)) refl e
     where
       go : (x : AtFront (List ℕ)) → counted (drop at bytes) ≡ x → run-told at x ≡ RunCut → counted (drop at bytes) ≡ CUT
       go CUT h told = h
-      go (FRONT run rest) h told = absurd (let z : _≡_ {A = ℕ} 0 1 = cc in omega arith)
+      go (FRONT run rest) h told = never cc
 
   pub run-there : {run rest : List ℕ} → counted (drop at bytes) ≡ FRONT run rest
       → (at + 4 + length run ≤ length bytes) × (run ≡ take (length run) (drop (at + 4) bytes)) × (rest ≡ drop (at + 4 + length run) bytes)
@@ -89,16 +98,13 @@ module _ (bytes : List ℕ) (at : ℕ) where
         left ∙ ap (drop n) same ∙ drop-drop n (at + 4) bytes ∙ ap (λ k. drop (at + 4 + k) bytes) (sym size),
       )
 
-  pub run-found : {from len : ℕ} → run-at bytes at ≡ WholeRun from len
-      → (from ≡ at + 4) × (from + len ≤ length bytes) × (counted (drop at bytes) ≡ FRONT (take len (drop from bytes)) (drop (from + len) bytes))
+  pub run-found : {s : Span} → run-at bytes at ≡ WholeRun s → RunFound bytes at s
   unfolding run-at
-  run-found {from} {len} e = go (counted (drop at bytes)) refl e
+  run-found {s} e = go (counted (drop at bytes)) refl e
     where
-      go : (x : AtFront (List ℕ)) → counted (drop at bytes) ≡ x → run-told at x ≡ WholeRun from len
-          → (from ≡ at + 4) × (from + len ≤ length bytes) × (counted (drop at bytes) ≡ FRONT (take len (drop from bytes)) (drop (from + len) bytes))
-      go CUT h told = absurd (let z : _≡_ {A = ℕ} 0 1 = cc in omega arith)
+      go : (x : AtFront (List ℕ)) → counted (drop at bytes) ≡ x → run-told at x ≡ WholeRun s → RunFound bytes at s
+      go CUT h told = never cc
       go (FRONT run rest) h told =
-          let place : from ≡ at + 4 = cc in
-          let size : len ≡ length run = cc in
+          let same : span (at + 4) (length run) ≡ s = cc in
           let (fits, is, left) = run-there h in
-          (place, omega arith, h ∙ ap₂ FRONT (is ∙ rw (place, size) refl) (left ∙ rw (place, size) refl))
+          subst (RunFound bytes at) same (record { place = refl; within = fits; front = h ∙ ap₂ FRONT is left })

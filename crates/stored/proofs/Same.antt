@@ -5,7 +5,7 @@ use mathlib.Core.Bool.{Bool, true, false, _&&_, false≢true}
 use mathlib.Core.List.{List, [], _∷_}
 use borrow.Author.Tests.{eq-eqb, eqb-true}
 use lib.Dec.{eqb}
-use Rattle.plan.proofs.Tests.{and-true}
+use Rattle.kinds.proofs.Tests.{and-true}
 use Rattle.stored.specs.Same.{same}
 
 pub same-self : (xs : List ℕ) → same xs xs ≡ true

@@ -6,11 +6,11 @@ use native.Mathlib.Omega.{arith}
 use borrow.Rule.Slice.PartMut.{midOf, mid-len, postOf, post-is, putMid}
 use lib.ListN.{length, set, take, drop, drop-of-length-le}
 use lib.Seq.{sets-eq, take-length}
-use Rattle.pieces.specs.Written.{put-at}
-use Rattle.pieces.proofs.Putting.{put-on}
+use Rattle.kinds.specs.Written.{put-at}
+use Rattle.kinds.proofs.Putting.{put-on}
 use Rattle.stored.specs.Counted.{four-bytes, with-count}
 
-four-stores : (l : List ℕ) (at a b c d : ℕ) → at + 4 ≤ length l
+pub four-stores : (l : List ℕ) (at a b c d : ℕ) → at + 4 ≤ length l
     → set (set (set (set l at a) (at + 1) b) (at + 2) c) (at + 3) d ≡ put-at l at (a ∷ b ∷ c ∷ d ∷ [])
 four-stores l at a b c d h =
     let one : at + 1 ≡ suc at = omega arith in

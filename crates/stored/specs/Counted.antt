@@ -16,6 +16,10 @@ unfoldable pub then-read : {A B : Type 0} → AtFront A → (A → List ℕ → 
 then-read CUT go = CUT
 then-read (FRONT a rest) go = go a rest
 
+-- the largest number that four bytes hold
+abbrev pub largest : ℕ
+largest = 4294967295
+
 abbrev pub four : (a b c d : ℕ) → ℕ
 four a b c d = a + 256 * b + 65536 * c + 16777216 * d
 
@@ -32,7 +36,11 @@ so-many n bs = cond (leb n (length bs)) (FRONT (take n bs) (drop n bs)) CUT
 unfoldable pub counted : List ℕ → AtFront (List ℕ)
 counted bs = then-read (number bs) so-many
 
--- the same two, written
+-- two runs, one behind the other, put together
+unfoldable pub two-counted : {A : Type 0} → (List ℕ → List ℕ → A) → List ℕ → AtFront A
+two-counted f bs = then-read (counted bs) (λ one rest. then-read (counted rest) (λ two later. FRONT (f one two) later))
+
+-- a number and a run, written
 unfoldable pub four-bytes : ℕ → List ℕ
 four-bytes n = n % 256 ∷ n / 256 % 256 ∷ n / 65536 % 256 ∷ n / 16777216 % 256 ∷ []
 

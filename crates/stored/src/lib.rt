@@ -3,13 +3,23 @@
 ghost use mathlib.Core.Path.{_≡_};
 ghost use Prim.Native.Nat.{_+_, _≤_, _<_, _^_};
 ghost use lib.ListN.{length};
-ghost use Rattle.pieces.specs.Written.{put-at};
+ghost use Rattle.kinds.specs.Written.{put-at};
 ghost use Rattle.stored.specs.Counted.{four, four-bytes, with-count};
-ghost use Rattle.stored.specs.Places.{number-at, run-at};
+ghost use Rattle.stored.specs.Places.{number-at, run-at, runs-at};
+ghost use Rattle.stored.specs.Spans.{SpanWithin, part};
 use bytes::copy;
 
 // The bytes that a number takes.
 pub const NUMBER: usize = 4;
+
+// The largest number that is stored, and so the most bytes of a run.
+pub const LARGEST: u32 = 4_294_967_295;
+
+// Bytes of a slice: where they begin, and how many they are.
+pub struct Span {
+    pub at: usize,
+    pub len: usize,
+}
 
 // A number at a place.
 pub enum NumberAt {
@@ -17,10 +27,26 @@ pub enum NumberAt {
     Whole(u32),
 }
 
-// A run of bytes at a place, behind its count: where its bytes begin, and how many they are.
+// A run of bytes at a place, behind its count.
 pub enum RunAt {
     Cut,
-    Whole { from: usize, len: usize },
+    Whole(Span),
+}
+
+// Two runs at a place, one behind the other.
+pub enum RunsAt {
+    Cut,
+    Both { first: Span, second: Span },
+}
+
+// The bytes that a span names.
+pub fn part(bytes: &[u8], span: Span) -> &[u8]
+    requires { ⌜ SpanWithin (now bytes) span ⌝ }
+    ensures { λ r. ⌜ now r ≡ part (now (bytes .entry)) span ⌝ }
+{
+    let at = span.at;
+    let end = at + span.len;
+    &bytes[at..end]
 }
 
 fn joined(a: u8, b: u8, c: u8, d: u8) -> u32
@@ -52,8 +78,20 @@ pub fn run_at(bytes: &[u8], at: usize) -> RunAt
             if bytes.len() - from < len {
                 return RunAt::Cut;
             }
-            RunAt::Whole { from, len }
+            RunAt::Whole(Span { at: from, len })
         }
+    }
+}
+
+pub fn runs_at(bytes: &[u8], at: usize) -> RunsAt
+    ensures { λ r. ⌜ r ≡ runs-at (now (bytes .entry)) at ⌝ }
+{
+    let RunAt::Whole(first) = run_at(bytes, at) else {
+        return RunsAt::Cut;
+    };
+    match run_at(bytes, first.at + first.len) {
+        RunAt::Cut => RunsAt::Cut,
+        RunAt::Whole(second) => RunsAt::Both { first, second },
     }
 }
 

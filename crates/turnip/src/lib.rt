@@ -1,16 +1,15 @@
 // The services for programs in C and other languages: include/turnip.h declares and explains these functions. Each asks nothing
 // of its caller and tells the service's answer by five numbers; its contract is the service's (specs/Stored.antt, specs/Rolls.antt).
 ghost use mathlib.Core.Path.{_≡_};
-ghost use lib.ListN.{getD, set};
 ghost use Rattle.answers.specs.Run.{run-numbers};
 ghost use Rattle.numbers.specs.Numbers.{read-numbers};
 ghost use Rattle.read.specs.Calls.{ReadsOut};
 ghost use Rattle.run.specs.Calls.{Runs};
-ghost use Rattle.filing.specs.Answers.{close-job, edition-1, file, grown, one-entry, roll-numbers};
+ghost use Rattle.filing.specs.Answers.{close-job, edition-1, file, one-entry, roll-numbers};
 ghost use Rattle.roll.specs.Calls.{Lists};
 ghost use Rattle.words.specs.Answers.{link-numbers};
 ghost use Rattle.linking.specs.Calls.{Links};
-ghost use Rattle.turnip.specs.Rolls.{AddsStored, five-of-entry, five-of-roll};
+ghost use Rattle.turnip.specs.Rolls.{AddsStored, five-of-entry, five-of-roll, tally-grown};
 ghost use Rattle.turnip.specs.Stored.{Answers, five};
 use answers::of_run;
 use filing::EntryAnswer;
@@ -67,15 +66,16 @@ pub extern "C" fn turnip_roll_read(roll: &[u8], list: &mut [u32], answer: &mut [
 fn store_entry(given: EntryAnswer, answer: &mut [u32; 5])
     ensures { λ _. ⌜ now (answer .exit) ≡ five-of-entry given ⌝ }
 {
+    let number = given.number();
     match given {
-        EntryAnswer::TooLong => *answer = [11, 0, 0, 0, 0],
-        EntryAnswer::NoEntry => *answer = [39, 0, 0, 0, 0],
+        EntryAnswer::TooLong => *answer = [number, 0, 0, 0, 0],
+        EntryAnswer::NoEntry => *answer = [number, 0, 0, 0, 0],
         EntryAnswer::Found {
             job,
             job_bytes,
             text,
             text_bytes,
-        } => *answer = [3, job, job_bytes, text, text_bytes],
+        } => *answer = [number, job, job_bytes, text, text_bytes],
     }
 }
 
@@ -88,7 +88,7 @@ pub extern "C" fn turnip_roll_entry(roll: &[u8], at: usize, answer: &mut [u32; 5
 
 // The array for a tally has jobs filed, then jobs done.
 fn store_entered(entered: Entered, tally: &mut [u32; 2], answer: &mut [u32; 5])
-    ensures counts { λ _. ⌜ now (tally .exit) ≡ set (set (now (tally .entry)) 0 (grown (entered .filed) (getD (now (tally .entry)) 0 0))) 1 (grown (entered .done) (getD (now (tally .entry)) 1 0)) ⌝ }
+    ensures counts { λ _. ⌜ now (tally .exit) ≡ tally-grown (now (tally .entry)) (entered .filed) (entered .done) ⌝ }
     ensures told { λ _. ⌜ now (answer .exit) ≡ five-of-roll (roll-numbers (entered .answer)) ⌝ }
 {
     let counted = with_entry(

@@ -12,11 +12,11 @@ use lib.Dec.{ltb}
 use lib.ListN.{length, take}
 use lib.Seq.{take-take}
 use Rattle.kinds.specs.Limits.{standard}
-use Rattle.pieces.specs.Written.{put-at}
-use Rattle.filing.specs.Answers.{Added, Judged, READS, REFUSES, add-to, edition-1, in-use, judged, listed-as, longest, new-bytes, new-entry, not-added, roll-numbers, roll-refusal-number}
+use Rattle.kinds.specs.Written.{put-at}
+use Rattle.filing.specs.Answers.{Added, Judged, READS, REFUSES, add, add-to, edition-1, in-use, judged, listed-as, longest, new-bytes, new-entry, not-added, roll-numbers, roll-refusal-number}
 use Rattle.filing.proofs.Adding.{entry-made, fault-first, room-last, roll-first}
 use Rattle.filing.specs.Format.{Entry}
-use Rattle.filing.specs.Rules.{counts-done, counts-filed, obeys, says}
+use Rattle.filing.specs.Rules.{counts-done, counts-filed, fault, says}
 use Rattle.filing.specs.declared.RollAnswer.{RollAnswer}
 use Rattle.filing.specs.declared.RollRefusal.{RollRefusal}
 use Rattle.filing.specs.declared.RollRefusal.the-variants.{AlreadyDone, BadJob, BadRoll, BadText, MoreEntries, NoRoom, TooLong, Unfiled, Unfinished}
@@ -24,7 +24,7 @@ use Rattle.demands.specs.Words.{READ}
 use Rattle.unlost.specs.Words.{OneMore, RollReads, torn-from, whole-in}
 use Rattle.unlost.proofs.Adding.{put-reads}
 use Rattle.unlost.proofs.Cut.{cut-reads, one-whole, reads-all, whole-append}
-use Rattle.filing.proofs.Readback.{Storable}
+use Rattle.filing.specs.EntriesStand.{Storable}
 
 pub refusal-not-read : (q : RollRefusal) → roll-refusal-number q ≡ READ → ⊥
 refusal-not-read TooLong e = omega arith
@@ -38,12 +38,12 @@ refusal-not-read (NoRoom n) e = omega arith
 refusal-not-read (MoreEntries n) e = omega arith
 
 -- the two ways in which adding ends
-pub record Made (buffer : List ℕ) (used : ℕ) (fault : List Entry → Option RollRefusal) (parts : List (List ℕ)) (a : Added) : Type 0 where
+pub record Made (buffer : List ℕ) (used : ℕ) (parts : List (List ℕ)) (a : Added) : Type 0 where
   pub es : List Entry
   pub end : ℕ
   pub read : RollReads (take used buffer) es end
   pub short : length buffer ≤ longest
-  pub fine : fault (reverse es) ≡ none
+  pub fine : fault standard (reverse es) (new-entry end parts) ≡ none
   pub room : end + length (new-bytes edition-1 end parts) ≤ length buffer
   pub answer : a .answer ≡ listed-as (new-entry end parts ∷ reverse es) (end + length (new-bytes edition-1 end parts))
   pub bytes : a .buffer ≡ put-at buffer end (new-bytes edition-1 end parts)
@@ -54,19 +54,19 @@ pub record NotMade (buffer : List ℕ) (a : Added) : Type 0 where
   pub why : RollRefusal
   pub refused : a ≡ not-added buffer why
 
-module _ (buffer : List ℕ) (used : ℕ) (fault : List Entry → Option RollRefusal) (parts : List (List ℕ)) where
-  pub made-or-not : Made buffer used fault parts (add-to edition-1 buffer (in-use edition-1 buffer used) fault parts)
-      ⊎ NotMade buffer (add-to edition-1 buffer (in-use edition-1 buffer used) fault parts)
-  unfolding in-use
+module _ (buffer : List ℕ) (used : ℕ) (parts : List (List ℕ)) where
+  pub made-or-not : Made buffer used parts (add edition-1 buffer used parts)
+      ⊎ NotMade buffer (add edition-1 buffer used parts)
+  unfolding add in-use
   made-or-not = by-length (ltb longest (length buffer)) refl
     where
       Either : Judged → Type 0
-      Either j = Made buffer used fault parts (add-to edition-1 buffer j fault parts) ⊎ NotMade buffer (add-to edition-1 buffer j fault parts)
+      Either j = Made buffer used parts (add-to edition-1 buffer j parts) ⊎ NotMade buffer (add-to edition-1 buffer j parts)
 
-      by-room : (es : List Entry) (end : ℕ) → RollReads (take used buffer) es end → length buffer ≤ longest → fault (reverse es) ≡ none
+      by-room : (es : List Entry) (end : ℕ) → RollReads (take used buffer) es end → length buffer ≤ longest → fault standard (reverse es) (new-entry end parts) ≡ none
           → Dec (length buffer < end + length (new-bytes edition-1 end parts)) → Either (READS es end)
       by-room es end reads short fine (no h) =
-          inl (rw (entry-made edition-1 buffer fault parts es end fine (omega arith)) record {
+          inl (rw (entry-made edition-1 buffer parts es end fine (omega arith)) record {
             es = es;
             end = end;
             read = reads;
@@ -79,22 +79,21 @@ module _ (buffer : List ℕ) (used : ℕ) (fault : List Entry → Option RollRef
             more-done = refl;
           })
       by-room es end reads short fine (yes h) =
-          inr (record { why = NoRoom (min (end + length (new-bytes edition-1 end parts)) longest); refused = room-last edition-1 buffer fault parts es end fine h })
+          inr (record { why = NoRoom (min (end + length (new-bytes edition-1 end parts)) longest); refused = room-last edition-1 buffer parts es end fine h })
 
-      by-fault : (es : List Entry) (end : ℕ) → RollReads (take used buffer) es end → length buffer ≤ longest → (x : Option RollRefusal) → fault (reverse es) ≡ x → Either (READS es end)
+      by-fault : (es : List Entry) (end : ℕ) → RollReads (take used buffer) es end → length buffer ≤ longest → (x : Option RollRefusal) → fault standard (reverse es) (new-entry end parts) ≡ x → Either (READS es end)
       by-fault es end reads short none e = by-room es end reads short e (decLt (length buffer) (end + length (new-bytes edition-1 end parts)))
-      by-fault es end reads short (some q) e = inr (record { why = q; refused = fault-first edition-1 buffer fault parts es end e })
+      by-fault es end reads short (some q) e = inr (record { why = q; refused = fault-first edition-1 buffer parts es end e })
 
       by-roll : length buffer ≤ longest → (j : Judged) → judged edition-1 (take used buffer) ≡ j → Either j
-      by-roll short (REFUSES q) e = inr (record { why = q; refused = roll-first edition-1 buffer fault parts q })
-      by-roll short (READS es end) e = by-fault es end e short (fault (reverse es)) refl
+      by-roll short (REFUSES q) e = inr (record { why = q; refused = roll-first edition-1 buffer parts q })
+      by-roll short (READS es end) e = by-fault es end e short (fault standard (reverse es) (new-entry end parts)) refl
 
       by-length : (t : Bool) → ltb longest (length buffer) ≡ t → Either (cond t (REFUSES TooLong) (judged edition-1 (take used buffer)))
-      by-length true e = inr (record { why = TooLong; refused = roll-first edition-1 buffer fault parts TooLong })
+      by-length true e = inr (record { why = TooLong; refused = roll-first edition-1 buffer parts TooLong })
       by-length false e = by-roll (ltb-false longest (length buffer) e) (judged edition-1 (take used buffer)) refl
 
-  module _ {a : Added} (m : Made buffer used fault parts a) (few : length parts ≤ longest) (fits : Storable parts)
-      (good : obeys standard (reverse (m .es)) (says parts) ≡ true) where
+  module _ {a : Added} (m : Made buffer used parts a) (few : length parts ≤ longest) (fits : Storable parts) where
     last : Entry
     last = new-entry (m .end) parts
 
@@ -102,7 +101,7 @@ module _ (buffer : List ℕ) (used : ℕ) (fault : List Entry → Option RollRef
     place = ap (λ (x : RollAnswer). roll-numbers x .place) (m .answer)
 
     now-reads : RollReads (take (roll-numbers (a .answer) .place) (a .buffer)) (m .es ++ new-entry (m .end) parts ∷ []) (roll-numbers (a .answer) .place)
-    now-reads = rw (place, m .bytes) (put-reads parts few fits buffer used (m .read) (m .short) good (m .room))
+    now-reads = rw (place, m .bytes) (put-reads parts few fits buffer used (m .read) (m .short) (m .fine) (m .room))
 
     cut : (n : ℕ) → m .end ≤ n → n ≤ roll-numbers (a .answer) .place
         → let e = min n (torn-from n (m .es ++ new-entry (m .end) parts ∷ []) (roll-numbers (a .answer) .place)) in

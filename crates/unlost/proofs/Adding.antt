@@ -2,25 +2,26 @@
 use Prim.Native.Nat.{ℕ, _+_, _-_, _≤_}
 use mathlib.Core.Path.{_≡_, refl, ap, ap₂, sym, subst, _∙_}
 use mathlib.Core.Logic.{_⊎_, inl, inr, _≢_}
-use mathlib.Core.Bool.{Bool, true, false, cond}
-use mathlib.Core.Option.{none, some}
-use mathlib.Core.List.{List, [], _∷_, _++_, append-assoc, append-nil, reverse, reverse-cons}
+use mathlib.Core.Option.{none}
+use mathlib.Core.List.{List, [], _∷_, _++_, append-assoc, append-nil, reverse}
 use native.Mathlib.Omega.{arith}
 use borrow.Author.Tests.{ne-eqb}
 use lib.ListN.{length, take, drop, length-append, length-take}
 use lib.Seq.{drop-append-le, drop-append-seam, drop-length, take-append-seam, take-take}
 use Rattle.kinds.specs.Limits.{standard}
-use Rattle.pieces.specs.Written.{put-at}
+use Rattle.kinds.specs.Written.{put-at}
 use Rattle.stored.specs.Counted.{FRONT}
 use Rattle.filing.specs.Answers.{edition-1, entry-bytes, longest, new-bytes, new-entry}
 use Rattle.filing.specs.Format.{Entry, entry}
-use Rattle.filing.specs.Rules.{broken, obeys, says}
+use Rattle.filing.specs.Rules.{broken, fault}
 use Rattle.filing.specs.EntriesStand.{EntriesStand}
 use Rattle.filing.proofs.Format.{stands-on, stands-within}
 use Rattle.unlost.specs.Words.{RollReads, sections-size}
 use Rattle.unlost.proofs.Cut.{first-kept, kept-whole, nothing-cut}
 use Rattle.unlost.proofs.Exact.{found-entry}
-use Rattle.filing.proofs.Readback.{Storable, entry-back}
+use Rattle.filing.proofs.Readback.{entry-back}
+use Rattle.filing.proofs.Rules.{obeyed-on}
+use Rattle.filing.specs.EntriesStand.{Storable}
 use Rattle.filing.proofs.Sound.{Blank, SoundRoll, reads-sound, sound-reads}
 
 -- entries stand in the bytes up to their end, and other bytes behind it change nothing
@@ -37,27 +38,6 @@ stands-longer xs ys upto (e ∷ es) from (p, (next, whole, low, high, more)) =
     let same = ap entry (drop-append-le from xs ys (omega arith) ∙ ap (_++ ys) (f .is) ∙ append-assoc (f .own) (drop next xs) ys) ∙ f .exact .whole (drop next xs ++ ys)
     ∙ ap (FRONT (e .parts)) (sym (drop-append-le next xs ys high)) in
     (p, (next, same, low, omega (arith, length-append xs ys), stands-longer xs ys upto es next more))
-
--- the rules look at earlier entries only
-pub broken-on : (past es more : List Entry) → broken standard past es ≡ none → broken standard past (es ++ more) ≡ broken standard (reverse es ++ past) more
-unfolding broken
-broken-on past [] more h = refl
-broken-on past (e ∷ es) more h =
-    go (obeys standard past (says (e .parts))) (broken-on (e ∷ past) es more) h
-    ∙ ap (λ z. broken standard z more) (sym (append-assoc (reverse es) (e ∷ []) past) ∙ ap (_++ past) (sym (reverse-cons e es)))
-  where
-    go : (t : Bool) → (broken standard (e ∷ past) es ≡ none → broken standard (e ∷ past) (es ++ more) ≡ broken standard (reverse es ++ e ∷ past) more)
-        → cond t (broken standard (e ∷ past) es) (some (e .place)) ≡ none
-        → cond t (broken standard (e ∷ past) (es ++ more)) (some (e .place)) ≡ broken standard (reverse es ++ e ∷ past) more
-    go true later h = later h
-    go false later h = absurd (let z : _≡_ {A = ℕ} 0 1 = cc in omega arith)
-
-one-obeys : (past : List Entry) (e : Entry) → obeys standard past (says (e .parts)) ≡ true → broken standard past (e ∷ []) ≡ none
-unfolding broken
-one-obeys past e h = rw h refl
-
-pub obeyed-on : (es : List Entry) (e : Entry) → broken standard [] es ≡ none → obeys standard (reverse es) (says (e .parts)) ≡ true → broken standard [] (es ++ e ∷ []) ≡ none
-obeyed-on es e h t = broken-on [] es (e ∷ []) h ∙ ap (λ z. broken standard z (e ∷ [])) (append-nil (reverse es)) ∙ one-obeys (reverse es) e t
 
 refl-broken : broken standard [] [] ≡ none
 unfolding broken
@@ -84,7 +64,7 @@ module _ (parts : List (List ℕ)) (few : length parts ≤ longest) (fits : Stor
       omega (arith, ap length (f .is), length-append (entry-bytes parts) [], length-append (f .own) [], f .long)
 
   behind-front : (front : List ℕ) (es : List Entry) (end : ℕ) → front ≡ 1 ∷ drop 1 front → length front ≡ end → EntriesStand front 1 es end → broken standard [] es ≡ none
-      → obeys standard (reverse es) (says parts) ≡ true → length (front ++ entry-bytes parts) ≤ longest
+      → fault standard (reverse es) (record { place = end; parts = parts }) ≡ none → length (front ++ entry-bytes parts) ≤ longest
       → RollReads (front ++ entry-bytes parts) (es ++ record { place = end; parts = parts } ∷ []) (length (front ++ entry-bytes parts))
   behind-front front es end first ends stand obeyed good short =
       let there : drop end (front ++ entry-bytes parts) ≡ entry-bytes parts = ap (λ k. drop k (front ++ entry-bytes parts)) (sym ends) ∙ drop-append-seam front (entry-bytes parts) in
@@ -97,7 +77,7 @@ module _ (parts : List (List ℕ)) (few : length parts ≤ longest) (fits : Stor
         stand = stands-on (front ++ entry-bytes parts) 1 end (length (front ++ entry-bytes parts)) es (stands-longer front (entry-bytes parts) end es 1 stand) whole (omega (arith, ends, bytes-long, length-append front (entry-bytes parts))) (omega arith);
         within = omega arith;
         torn = ap entry over ∙ nothing-cut;
-        obeyed = obeyed-on es (record { place = end; parts = parts }) obeyed good;
+        obeyed = obeyed-on standard es obeyed (record { place = end; parts = parts }) good;
       }
 
   same-reads : {a b : List ℕ} {xs ys : List Entry} {m n : ℕ} → a ≡ b → xs ≡ ys → m ≡ n → RollReads b ys n → RollReads a xs m
@@ -105,7 +85,7 @@ module _ (parts : List (List ℕ)) (few : length parts ≤ longest) (fits : Stor
 
   -- the roll in use of a buffer, and the buffer with the new entry at its end
   module _ (buffer : List ℕ) (used : ℕ) {es : List Entry} {end : ℕ} (reads : RollReads (take used buffer) es end) (short : length buffer ≤ longest)
-      (good : obeys standard (reverse es) (says parts) ≡ true) (room : end + length (new-bytes edition-1 end parts) ≤ length buffer) where
+      (good : fault standard (reverse es) (new-entry end parts) ≡ none) (room : end + length (new-bytes edition-1 end parts) ≤ length buffer) where
     pub put-reads : RollReads (take (end + length (new-bytes edition-1 end parts)) (put-at buffer end (new-bytes edition-1 end parts))) (es ++ new-entry end parts ∷ [])
         (end + length (new-bytes edition-1 end parts))
     put-reads = go (reads-sound (take used buffer) reads)
@@ -120,7 +100,7 @@ module _ (parts : List (List ℕ)) (few : length parts ≤ longest) (fits : Stor
             let made = new-first end parts (b .at-0) in
             same-reads (written ∙ ap₂ (λ k bs. take k buffer ++ bs) (b .at-0) made) (ap₂ (λ (fs : List Entry) k. fs ++ new-entry k parts ∷ []) (b .no-entries) (b .at-0))
             (let e : end + length (new-bytes edition-1 end parts) ≡ length (1 ∷ entry-bytes parts) = omega (arith, b .at-0, ap length made) in e)
-            (behind-front (1 ∷ []) [] 1 refl refl refl refl-broken (subst (λ fs. obeys standard (reverse fs) (says parts) ≡ true) (b .no-entries) good) (omega (arith, ap length made)))
+            (behind-front (1 ∷ []) [] 1 refl refl refl refl-broken (sym (ap₂ (λ (fs : List Entry) k. fault standard (reverse fs) (new-entry k parts)) (b .no-entries) (b .at-0)) ∙ good) (omega (arith, ap length made)))
         go (inr s) =
             let low = stands-within (take used buffer) 1 end es (s .stand) in
             let later : end ≢ 0 = λ z. absurd (omega (arith, z, low)) in
@@ -131,4 +111,4 @@ module _ (parts : List (List ℕ)) (few : length parts ≤ longest) (fits : Stor
             let all : length (take end buffer ++ entry-bytes parts) ≡ end + length (new-bytes edition-1 end parts) = omega (arith, length-append (take end buffer) (entry-bytes parts), ap length made, long) in
             let stand = subst (λ bs. EntriesStand bs 1 es end) same (stands-front (take used buffer) end end es 1 (s .stand) (omega arith)) in
             same-reads (written ∙ ap (take end buffer ++_) made) (ap (λ (e : Entry). es ++ e ∷ []) place) (sym all)
-            (behind-front (take end buffer) es end (subst (λ bs. bs ≡ 1 ∷ drop 1 bs) same (first-kept (take used buffer) end low (s .first))) long stand (s .obeyed) good (omega (arith, all)))
+            (behind-front (take end buffer) es end (subst (λ bs. bs ≡ 1 ∷ drop 1 bs) same (first-kept (take used buffer) end low (s .first))) long stand (s .obeyed) (ap (fault standard (reverse es)) (sym place) ∙ good) (omega (arith, all)))

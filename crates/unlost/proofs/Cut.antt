@@ -3,7 +3,7 @@ use Prim.Native.Nat.{ℕ, zero, suc, _+_, _-_, _≤_, _<_, min}
 use mathlib.Core.Path.{_≡_, refl, ap, ap₂, sym, subst, _∙_}
 use mathlib.Core.Logic.{_⊎_, inl, inr}
 use mathlib.Core.Bool.{Bool, true, false, cond}
-use mathlib.Core.Option.{none, some}
+use mathlib.Core.Option.{none}
 use mathlib.Core.List.{List, [], _∷_, _++_, append-assoc}
 use native.Mathlib.Omega.{arith}
 use native.Mathlib.Decide.{decLt}
@@ -13,10 +13,11 @@ use lib.ListN.{length, take, drop, length-append, length-drop, length-take, take
 use lib.Seq.{take-all, take-append-add, take-append-le}
 use Rattle.kinds.specs.Limits.{standard}
 use Rattle.stored.specs.Counted.{AtFront, CUT, FRONT, number, then-read}
-use Rattle.stored.proofs.Counted.{never}
+use Rattle.kinds.proofs.Tests.{never}
 use Rattle.filing.specs.Format.{Entry, entry}
-use Rattle.filing.specs.Rules.{broken, obeys, says}
+use Rattle.filing.specs.Rules.{broken}
 use Rattle.filing.specs.EntriesStand.{EntriesStand}
+use Rattle.filing.proofs.Rules.{broken-front}
 use Rattle.filing.proofs.Format.{stands-within}
 use Rattle.unlost.specs.Words.{RollReads, entry-end, sections-size, torn-from, whole-in}
 use Rattle.stored.proofs.Exact.{FoundFront}
@@ -63,18 +64,7 @@ still-torn bytes at n e = go (entry (drop at (take n bytes))) refl
         let f = found-entry (drop at (take n bytes)) h in
         let all : drop at bytes ≡ f .own ++ (rest ++ drop (n - at) (drop at bytes)) =
         sym (take-append-drop (n - at) (drop at bytes)) ∙ ap (_++ drop (n - at) (drop at bytes)) (sym (drop-take at n bytes) ∙ f .is) ∙ append-assoc (f .own) rest (drop (n - at) (drop at bytes)) in
-        absurd (never (sym e ∙ ap entry all ∙ f .exact .whole (rest ++ drop (n - at) (drop at bytes))))
-
--- a front part of what obeys the rules obeys them
-pub broken-front : (past xs ys : List Entry) → broken standard past (xs ++ ys) ≡ none → broken standard past xs ≡ none
-unfolding broken
-broken-front past [] ys h = refl
-broken-front past (e ∷ xs) ys h = go (obeys standard past (says (e .parts))) (broken-front (e ∷ past) xs ys) h
-  where
-    go : (t : Bool) → (broken standard (e ∷ past) (xs ++ ys) ≡ none → broken standard (e ∷ past) xs ≡ none)
-        → cond t (broken standard (e ∷ past) (xs ++ ys)) (some (e .place)) ≡ none → cond t (broken standard (e ∷ past) xs) (some (e .place)) ≡ none
-    go true later h = later h
-    go false later h = h
+        never (let z = sym e ∙ ap entry all ∙ f .exact .whole (rest ++ drop (n - at) (drop at bytes)) in cc)
 
 module _ (bytes : List ℕ) (n upto : ℕ) where
   -- nothing that starts behind the cut is whole
@@ -149,7 +139,7 @@ cut-reads roll {es} {end} r n = go n (reads-sound roll r)
           stand = it .stand;
           within = it .within;
           torn = it .torn;
-          obeyed = broken-front [] (whole-in (suc k) es) (it .lost) (subst (λ es. broken standard [] es ≡ none) (it .split) (s .obeyed));
+          obeyed = broken-front standard [] (whole-in (suc k) es) (it .lost) (subst (λ es. broken standard [] es ≡ none) (it .split) (s .obeyed));
         })
 
 -- all are whole in bytes that reach their end

@@ -5,19 +5,16 @@ use mathlib.Core.Path.{_≡_, refl, ap, ap₂}
 use mathlib.Core.List.{List, [], _∷_, _++_}
 use native.Mathlib.Omega.{arith}
 use lib.ListN.{take, replicate}
-use Rattle.plan.specs.Options.{_else_, is-none, under}
-use Rattle.plan.specs.Plan.{cells, labels, letter, print, _then_}
-use Rattle.plan.specs.Token.{annotation, follows, scalar, value, well-formed, all-permitted, allowed, before-brace, character, if-allowed, may-hold, permits, token-text}
-use Rattle.plan.specs.Outcomes.{is-given}
-use Rattle.plan.specs.Reading.{accept, class, fit, go-on, mark, move, past-token, plan-in, plan-of, read-from, read-text}
-use Rattle.rules.specs.Rewriting.{after-two, finished, first-block, inner, next, outer}
-use Rattle.plan.specs.Read.{acceptable, as-read, reads}
+use Rattle.plan.specs.Plan.{_then_}
+use Rattle.plan.specs.Token.{annotation}
 use Rattle.numbers.specs.Rows.{bytes}
-use Rattle.stored.specs.Counted.{counted, four-bytes, number, so-many, then-read, with-count}
-use Rattle.filing.specs.Format.{Entry, entry, listed, listing, roll, sections, with-first}
-use Rattle.filing.specs.Rules.{broken, counts-done, counts-filed, digits, done, filed, is-finished, is-job, is-new, is-printed, may-close, may-file, newest, obeys, says, standing}
+use Rattle.stored.specs.Counted.{number}
+use Rattle.filing.specs.Format.{Entry, entry, roll}
+use Rattle.filing.proofs.Worked.{rolling}
+use Rattle.filing.specs.Rules.{counts-done, counts-filed, done, filed, is-new, newest, says, standing}
 use Rattle.stored.specs.Same.{same}
-use Rattle.filing.specs.Answers.{add-to, after-done, by-rules, close-job, closing-fault, edition-1, entry-bytes, file, fill, filing-fault, grown, in-use, judged, new-bytes, no-room, places, read-roll, roll-numbers, sections-bytes, unbroken, unfinished, unless}
+use Rattle.filing.specs.Answers.{close-job, edition-1, file, places, roll-numbers}
+use Rattle.filing.specs.declared.RollAnswer.{RollAnswer}
 use Rattle.filing.specs.declared.RollAnswer.the-variants.{Listed, Refused}
 use Rattle.filing.specs.declared.RollRefusal.the-variants.{BadRoll, BadText, Unfinished}
 use Rattle.filing.specs.declared.Tally.{Tally}
@@ -77,14 +74,17 @@ annotated-filed = 2 ∷ 0 ∷ 0 ∷ 0 ∷ 1 ∷ 0 ∷ 0 ∷ 0 ∷ job ++ 3 ∷ 0
 abbrev tally : (filed done : ℕ) → Tally
 tally f d = record { filed = f; done = d }
 
-pub calls : Adds (file edition-1 buffer 0 job ended) (tally 0 0) (Listed 1 1 0 24) one (tally 1 0)
-    × Adds (close-job edition-1 one 24 job) (tally 1 0) (Listed 2 1 1 33) two (tally 1 1)
-    × Adds (file edition-1 two 33 other-job p7) (tally 1 1) (Listed 3 2 1 60) three (tally 2 1)
+abbrev listed : (entries filed done end : ℕ) → RollAnswer
+listed n f d e = Listed (record { entries = n; filed = f; done = d; end = e })
+
+pub calls : Adds (file edition-1 buffer 0 job ended) (tally 0 0) (listed 1 1 0 24) one (tally 1 0)
+    × Adds (close-job edition-1 one 24 job) (tally 1 0) (listed 2 1 1 33) two (tally 1 1)
+    × Adds (file edition-1 two 33 other-job p7) (tally 1 1) (listed 3 2 1 60) three (tally 2 1)
     × Adds (close-job edition-1 three 60 other-job) (tally 2 1) (Refused (Unfinished 33)) three (tally 2 1)
-    × Lists (take 60 three) (replicate 4 9) (Listed 3 2 1 60) (1 ∷ 24 ∷ 33 ∷ 9 ∷ []) × Lists buffer (replicate 4 9) (Refused (BadRoll 0)) (replicate 4 9)
+    × Lists (take 60 three) (replicate 4 9) (listed 3 2 1 60) (1 ∷ 24 ∷ 33 ∷ 9 ∷ []) × Lists buffer (replicate 4 9) (Refused (BadRoll 0)) (replicate 4 9)
     × Adds (file edition-1 one 24 other-job annotated) (tally 1 0) (Refused BadText) one (tally 1 0)
     × Lists (1 ∷ annotated-filed) (replicate 4 9) (Refused (BadRoll 1)) (replicate 4 9)
-unfolding read-roll fill places file close-job add-to in-use judged by-rules unbroken unless no-room filing-fault closing-fault unfinished after-done grown new-bytes entry-bytes sections-bytes with-count four-bytes roll listing listed with-first entry sections counted number so-many then-read broken obeys says same digits is-job is-printed is-finished acceptable is-given reads as-read plan-of plan-in standing newest may-file may-close is-new counts-filed counts-done filed done finished is-none next outer inner first-block after-two under _else_ accept read-text read-from go-on move past-token mark annotation fit class token-text if-allowed before-brace allowed all-permitted permits may-hold character value follows scalar well-formed cells labels print letter _then_ bytes
+unfolding rolling bytes
 calls = (
   record { answer = refl; bytes = refl; filed = refl; done = refl },
   record { answer = refl; bytes = refl; filed = refl; done = refl },
@@ -118,11 +118,11 @@ an-adding-stored =
 -- `RollReads`, of the whole and of a part that is cut in the last entry
 pub a-roll : RollReads (take 60 three) (filing ∷ closing ∷ later ∷ []) 60 × RollReads (take 59 three) (filing ∷ closing ∷ []) 33
     × RollReads (take 24 one) (filing ∷ []) 24
-unfolding whole-in torn-from entry-end sections-size judged by-rules unbroken roll listing listed with-first entry sections counted number so-many then-read broken obeys says same digits is-job is-printed is-finished acceptable is-given reads as-read plan-of plan-in standing newest may-file may-close finished is-none next outer inner first-block after-two under _else_ accept read-text read-from go-on move past-token mark annotation fit class token-text if-allowed before-brace allowed all-permitted permits may-hold character value follows scalar well-formed cells labels print letter _then_ bytes
+unfolding rolling whole-in torn-from entry-end sections-size bytes
 a-roll = (refl, cut-reads (take 60 three) {es = filing ∷ closing ∷ later ∷ []} {end = 60} refl 59, refl)
 
 -- `ListedAs` and `Unlisted`
-pub a-listing : ListedAs (filing ∷ closing ∷ later ∷ []) 60 (replicate 4 9) (Listed 3 2 1 60) (1 ∷ 24 ∷ 33 ∷ 9 ∷ []) × Unlisted (replicate 4 9) (Refused (BadRoll 0)) (replicate 4 9)
+pub a-listing : ListedAs (filing ∷ closing ∷ later ∷ []) 60 (replicate 4 9) (listed 3 2 1 60) (1 ∷ 24 ∷ 33 ∷ 9 ∷ []) × Unlisted (replicate 4 9) (Refused (BadRoll 0)) (replicate 4 9)
 a-listing = (reads-listed (calls .4) (filing ∷ closing ∷ later ∷ []) 60 (a-roll .0) (omega arith), read-refused (calls .5) (λ e. omega arith))
 
 -- `HasText`: the DONE stands behind its text
@@ -131,7 +131,7 @@ unfolding says
 a-done-with-text = done-has-text (take 60 three) (filing ∷ []) (later ∷ []) closing (a-roll .0) job refl
 
 -- `OneMore`, of both kinds of entry; `Unchanged`
-pub entries-added : OneMore buffer 0 (job ∷ ended ∷ []) (Listed 1 1 0 24) one × OneMore one 24 (job ∷ []) (Listed 2 1 1 33) two
+pub entries-added : OneMore buffer 0 (job ∷ ended ∷ []) (listed 1 1 0 24) one × OneMore one 24 (job ∷ []) (listed 2 1 1 33) two
 entries-added = (filed-is-last buffer 0 job ended (calls .0) refl, done-is-last one 24 job (calls .1) refl)
 
 pub an-entry-refused : Unchanged three (tally 2 1) (Refused (Unfinished 33)) three (tally 2 1)
@@ -152,7 +152,7 @@ pub a-last-filing : FiledLast job ended (filing ∷ []) 1
 unfolding standing newest says same bytes
 a-last-filing = refl
 
-pub a-run-marked-done : roll-numbers (Listed 2 1 1 33) .number ≡ READ
+pub a-run-marked-done : roll-numbers (listed 2 1 1 33) .number ≡ READ
 unfolding bytes
 a-run-marked-done =
     done-can-be-marked (demanded.calls .0) (demanded.a-done-run .0) one 24 job (a-roll .2) a-last-filing (omega arith) (calls .1) refl (λ e. omega arith)

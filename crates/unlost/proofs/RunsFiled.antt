@@ -1,10 +1,10 @@
 -- A run's DONE text, filed, can be marked done; a run's QUOTA or FULL text cannot. Said of RUN's own answers.
 use Prim.Native.Nat.{ℕ, _+_, _≤_, _<_}
 use mathlib.Core.Path.{_≡_, refl, ap, sym, _∙_}
-use mathlib.Core.Logic.{_≢_, _↔_, _⊎_, inl, inr}
+use mathlib.Core.Logic.{_≢_, _↔_}
 use mathlib.Core.Bool.{Bool, true, false, cond}
 use mathlib.Core.Option.{none, some, Option}
-use mathlib.Core.List.{List, [], _∷_, _++_, reverse, reverse-append, reverseAux}
+use mathlib.Core.List.{List, [], _∷_, _++_, reverse, reverse-append}
 use native.Mathlib.Omega.{arith}
 use native.Mathlib.Decide.{decLt}
 use borrow.Author.Tests.{le-ltb}
@@ -17,14 +17,14 @@ use Rattle.kinds.specs.Limits.{standard}
 use Rattle.answers.specs.declared.RunAnswer.{RunAnswer}
 use Rattle.plan.proofs.Plans.{print-relabel}
 use Rattle.rules.proofs.Rewrites.{finished-relabel, finished-when}
-use Rattle.plan.proofs.Tests.{never, false-is-not-true}
-use Rattle.filing.specs.Answers.{Added, READS, add-to, after-done, close-job, closing-fault, edition-1, file, filing-fault, in-use, longest, new-bytes, new-entry, roll-numbers, unfinished, Edition, Judged, REFUSES, by-rules, judged, roll-refusal-number, unbroken}
+use Rattle.kinds.proofs.Tests.{never, false-is-not-true}
+use Rattle.filing.specs.Answers.{Added, Edition, Judged, READS, REFUSES, add, add-to, by-rules, close-job, edition-1, file, in-use, judged, longest, new-bytes, new-entry, roll-numbers, roll-refusal-number, unbroken}
 use Rattle.filing.proofs.Adding.{entry-made, fault-first, room-last, roll-first}
-use Rattle.filing.proofs.Rules.{obeys-filed}
-use Rattle.stored.proofs.Same.{same-self, same-equal}
+use Rattle.filing.proofs.Rules.{filed-right}
+use Rattle.stored.proofs.Same.{same-self}
 use Rattle.filing.specs.Format.{Entry, Listing, roll}
 use Rattle.stored.specs.Same.{same}
-use Rattle.filing.specs.Rules.{is-finished, is-job, is-printed, newest, says, standing, DONE, DONE-AT, EntrySays, FILED, FILED-AT, JobStanding, NEITHER, UNFILED, broken, obeys}
+use Rattle.filing.specs.Rules.{DONE-AT, FILED-AT, JobStanding, UNFILED, after-done, broken, fault, fault-of, is-finished, is-job, is-printed, newest, says, standing, unfinished}
 use Rattle.filing.specs.declared.RollAnswer.{RollAnswer}
 use Rattle.filing.specs.declared.RollRefusal.the-variants.{BadJob, BadText, Unfinished, AlreadyDone, BadRoll, TooLong}
 use Rattle.filing.specs.declared.Tally.{Tally}
@@ -39,7 +39,7 @@ use Rattle.unlost.specs.Words.{NOROOM, UNFINISHED, BADTEXT, FiledLast, R
 use Rattle.unlost.proofs.Kept.{filed-is-last}
 use Rattle.filing.specs.declared.RollRefusal.{RollRefusal}
 use Rattle.filing.proofs.Texts.{finished-by-plan, printed-by-plan}
-use Rattle.filing.proofs.Sound.{Blank, SoundRoll, reads-sound}
+use Rattle.filing.proofs.Sound.{reads-before}
 use lib.Dec.{ltb}
 
 -- a text that is its plan's printed text
@@ -55,78 +55,37 @@ module _ {text : List ℕ} {q : Bare} (reads : Reads cellLimit text q) where
       let alike : finished q ≡ finished (reads .placed) = ap finished (sym (reads .same)) ∙ finished-relabel (λ l. tt) (reads .placed) in
       (λ e. finished-when q .0 (alike ∙ sym told ∙ e), λ stuck. told ∙ sym alike ∙ finished-when q .1 stuck)
 
--- in a roll that reads, the job of a FILED is a job number
-module _ (job : List ℕ) where
-  abbrev IfFiled : List Entry → Type 0
-  IfFiled past = (place : ℕ) (text : List ℕ) → standing job past ≡ FILED-AT place text → is-job job ≡ true
-
-  -- one entry more
-  filed-here : (past : List Entry) (f : Entry) → obeys standard past (says (f .parts)) ≡ true → IfFiled past → IfFiled (f ∷ past)
-  unfolding standing newest
-  filed-here past f good before place text e = by (says (f .parts)) good e
-    where
-      by-filed : (j t : List ℕ) → obeys standard past (FILED j t) ≡ true → (b : Bool) → same j job ≡ b → cond b (FILED-AT (f .place) t) (standing job past) ≡ FILED-AT place text → is-job job ≡ true
-      by-filed j t good true is e = ap is-job (sym (same-equal j job is)) ∙ obeys-filed standard past j t good .0
-      by-filed j t good false is e = before place text e
-
-      by-done : (b : Bool) → cond b (DONE-AT (f .place)) (standing job past) ≡ FILED-AT place text → is-job job ≡ true
-      by-done true e = never cc
-      by-done false e = before place text e
-
-      by : (x : EntrySays) → obeys standard past x ≡ true → newest job (f .place) x (standing job past) ≡ FILED-AT place text → is-job job ≡ true
-      by (FILED j t) good e = by-filed j t good (same j job) refl e
-      by (DONE j) good e = by-done (same j job) e
-      by NEITHER good e = before place text e
-
-  filed-is-job : (past es : List Entry) → broken standard past es ≡ none → IfFiled past → IfFiled (reverseAux es past)
-  unfolding broken
-  filed-is-job past [] h before = before
-  filed-is-job past (f ∷ es) h before = go (obeys standard past (says (f .parts))) refl h (filed-is-job (f ∷ past) es)
-    where
-      go : (b : Bool) → obeys standard past (says (f .parts)) ≡ b → cond b (broken standard (f ∷ past) es) (some (f .place)) ≡ none
-          → (broken standard (f ∷ past) es ≡ none → IfFiled (f ∷ past) → IfFiled (reverseAux es (f ∷ past))) → IfFiled (reverseAux es (f ∷ past))
-      go true good h later = later h (filed-here past f good before)
-      go false good h later = never cc
-
 -- closing a job whose last entry is a FILED asks of its text only that it is finished, and then for room
 module _ (buffer : List ℕ) (used : ℕ) (job text : List ℕ) {es : List Entry} {end place : ℕ} (reads : RollReads (take used buffer) es end) (last : FiledLast job text es place)
     (short : length buffer ≤ longest) {tally : Tally} {b : RollAnswer} {buffer′ : List ℕ} {tally′ : Tally} (call : Adds (close-job edition-1 buffer used job) tally b buffer′ tally′) where
   its-job : is-job job ≡ true
-  unfolding standing
-  its-job = go (reads-sound (take used buffer) reads)
-    where
-      nobody : (place : ℕ) (text : List ℕ) → standing job [] ≡ FILED-AT place text → is-job job ≡ true
-      nobody p t e = never cc
+  its-job = filed-right standard job es (reads-before (take used buffer) reads .obeyed) last .its-job
 
-      go : Blank (take used buffer) es end ⊎ SoundRoll (take used buffer) es end → is-job job ≡ true
-      go (inl x) = nobody place text (sym (ap (λ fs. standing job (reverse fs)) (x .no-entries)) ∙ last)
-      go (inr s) = filed-is-job job [] es (s .obeyed) nobody place text last
+  wrong-by : fault standard (reverse es) (new-entry end (job ∷ [])) ≡ cond (is-finished standard text) none (some (Unfinished place))
+  unfolding fault fault-of says unfinished
+  wrong-by = rw (its-job, last) refl
 
-  fault : closing-fault standard (reverse es) job ≡ cond (is-finished standard text) none (some (Unfinished place))
-  unfolding closing-fault unfinished
-  fault = rw (its-job, last) refl
-
-  told : {x : Added} → add-to edition-1 buffer (READS es end) (λ past. closing-fault standard past job) (job ∷ []) ≡ x → b ≡ x .answer
-  unfolding close-job in-use
+  told : {x : Added} → add-to edition-1 buffer (READS es end) (job ∷ []) ≡ x → b ≡ x .answer
+  unfolding close-job add in-use
   told e =
       let used-is : in-use edition-1 buffer used ≡ READS es end = rw (le-ltb longest (length buffer) short) reads in
-      call .answer ∙ ap (λ (x : Added). x .answer) (ap (λ j. add-to edition-1 buffer j (λ past. closing-fault standard past job) (job ∷ [])) used-is ∙ e)
+      call .answer ∙ ap (λ (x : Added). x .answer) (ap (λ j. add-to edition-1 buffer j (job ∷ [])) used-is ∙ e)
 
   finished-closes : is-finished standard text ≡ true → roll-numbers b .number ≢ NOROOM → roll-numbers b .number ≡ READ
   finished-closes e room = go (decLt (length buffer) (end + length (new-bytes edition-1 end (job ∷ []))))
     where
-      fine : closing-fault standard (reverse es) job ≡ none
-      fine = fault ∙ rw e refl
+      fine : fault standard (reverse es) (new-entry end (job ∷ [])) ≡ none
+      fine = wrong-by ∙ rw e refl
 
       go : Dec (length buffer < end + length (new-bytes edition-1 end (job ∷ []))) → roll-numbers b .number ≡ READ
-      go (no h) = ap (λ (x : RollAnswer). roll-numbers x .number) (told (entry-made edition-1 buffer (λ past. closing-fault standard past job) (job ∷ []) es end fine (omega arith)))
+      go (no h) = ap (λ (x : RollAnswer). roll-numbers x .number) (told (entry-made edition-1 buffer (job ∷ []) es end fine (omega arith)))
       go (yes h) =
-          absurd (room (ap (λ (x : RollAnswer). roll-numbers x .number) (told (room-last edition-1 buffer (λ past. closing-fault standard past job) (job ∷ []) es end fine h))))
+          absurd (room (ap (λ (x : RollAnswer). roll-numbers x .number) (told (room-last edition-1 buffer (job ∷ []) es end fine h))))
 
   unfinished-stays : is-finished standard text ≡ false → (roll-numbers b .number ≡ UNFINISHED) × (roll-numbers b .place ≡ place)
   unfinished-stays e =
-      let wrong : closing-fault standard (reverse es) job ≡ some (Unfinished place) = fault ∙ rw e refl in
-      let so = told (fault-first edition-1 buffer (λ past. closing-fault standard past job) (job ∷ []) es end wrong) in
+      let wrong : fault standard (reverse es) (new-entry end (job ∷ [])) ≡ some (Unfinished place) = wrong-by ∙ rw e refl in
+      let so = told (fault-first edition-1 buffer (job ∷ []) es end wrong) in
       (ap (λ (x : RollAnswer). roll-numbers x .number) so, ap (λ (x : RollAnswer). roll-numbers x .place) so)
 
 -- what was filed is its job's last entry
@@ -157,9 +116,9 @@ refused-roll ed bytes {q} e = by-length (ltb longest (length bytes)) e
     by-length false e n = by-bytes (roll (ed .first) bytes) e n
 
 module _ (buffer : List ℕ) (used : ℕ) (job text : List ℕ) (printed : is-printed standard text ≡ true) where
-  by-fault : (past : List Entry) {q : RollRefusal} → filing-fault standard past job text ≡ some q → roll-refusal-number q ≢ BADTEXT
-  unfolding filing-fault after-done
-  by-fault past {q} e = go (is-job job) (is-printed standard text) (standing job past) printed e
+  by-fault : (past : List Entry) (place : ℕ) {q : RollRefusal} → fault standard past (record { place = place; parts = job ∷ text ∷ [] }) ≡ some q → roll-refusal-number q ≢ BADTEXT
+  unfolding fault fault-of says after-done
+  by-fault past place {q} e = go (is-job job) (is-printed standard text) (standing job past) printed e
     where
       go : (a t : Bool) (s : JobStanding) → t ≡ true → cond a (cond t (after-done s) (some BadText)) (some BadJob) ≡ some q → roll-refusal-number q ≢ BADTEXT
       go false t s p e n = let is : BadJob ≡ q = cc in omega (arith, ap roll-refusal-number is, n)
@@ -169,26 +128,23 @@ module _ (buffer : List ℕ) (used : ℕ) (job text : List ℕ) (printed : is-pr
       go true true (DONE-AT x) p e n = let is : AlreadyDone x ≡ q = cc in omega (arith, ap roll-refusal-number is, n)
 
   not-badtext : (j : Judged) → ((q : RollRefusal) → j ≡ REFUSES q → roll-refusal-number q ≢ BADTEXT)
-      → roll-numbers (add-to edition-1 buffer j (λ past. filing-fault standard past job text) (job ∷ text ∷ []) .answer) .number ≢ BADTEXT
-  not-badtext (REFUSES q) other = rw (roll-first edition-1 buffer (λ past. filing-fault standard past job text) (job ∷ text ∷ []) q) (other q refl)
-  not-badtext (READS es end) other = go (filing-fault standard (reverse es) job text) refl (decLt (length buffer) (end + length (new-bytes edition-1 end (job ∷ text ∷ []))))
+      → roll-numbers (add-to edition-1 buffer j (job ∷ text ∷ []) .answer) .number ≢ BADTEXT
+  not-badtext (REFUSES q) other = rw (roll-first edition-1 buffer (job ∷ text ∷ []) q) (other q refl)
+  not-badtext (READS es end) other = go (fault standard (reverse es) (new-entry end (job ∷ text ∷ []))) refl (decLt (length buffer) (end + length (new-bytes edition-1 end (job ∷ text ∷ []))))
     where
-      fault : List Entry → Option RollRefusal
-      fault past = filing-fault standard past job text
-
-      go : (x : Option RollRefusal) → filing-fault standard (reverse es) job text ≡ x → Dec (length buffer < end + length (new-bytes edition-1 end (job ∷ text ∷ [])))
-          → roll-numbers (add-to edition-1 buffer (READS es end) fault (job ∷ text ∷ []) .answer) .number ≢ BADTEXT
-      go (some q) e d = rw (fault-first edition-1 buffer fault (job ∷ text ∷ []) es end e) (by-fault (reverse es) e)
-      go none e (yes h) = rw (room-last edition-1 buffer fault (job ∷ text ∷ []) es end e h) (λ n. omega (arith, n))
-      go none e (no h) = rw (entry-made edition-1 buffer fault (job ∷ text ∷ []) es end e (omega arith)) (λ n. omega (arith, n))
+      go : (x : Option RollRefusal) → fault standard (reverse es) (new-entry end (job ∷ text ∷ [])) ≡ x → Dec (length buffer < end + length (new-bytes edition-1 end (job ∷ text ∷ [])))
+          → roll-numbers (add-to edition-1 buffer (READS es end) (job ∷ text ∷ []) .answer) .number ≢ BADTEXT
+      go (some q) e d = rw (fault-first edition-1 buffer (job ∷ text ∷ []) es end e) (by-fault (reverse es) _ e)
+      go none e (yes h) = rw (room-last edition-1 buffer (job ∷ text ∷ []) es end e h) (λ n. omega (arith, n))
+      go none e (no h) = rw (entry-made edition-1 buffer (job ∷ text ∷ []) es end e (omega arith)) (λ n. omega (arith, n))
 
   printed-not-refused : {tally : Tally} {a : RollAnswer} {buffer′ : List ℕ} {tally′ : Tally} → Adds (file edition-1 buffer used job text) tally a buffer′ tally′ → roll-numbers a .number ≢ BADTEXT
-  unfolding file in-use
+  unfolding file add in-use
   printed-not-refused call n =
       by-length (ltb longest (length buffer)) (sym (ap (λ (x : RollAnswer). roll-numbers x .number) (call .answer)) ∙ n)
     where
       by-length : (t : Bool)
-          → roll-numbers (add-to edition-1 buffer (cond t (REFUSES TooLong) (judged edition-1 (take used buffer))) (λ past. filing-fault standard past job text) (job ∷ text ∷ []) .answer) .number ≡ BADTEXT
+          → roll-numbers (add-to edition-1 buffer (cond t (REFUSES TooLong) (judged edition-1 (take used buffer))) (job ∷ text ∷ []) .answer) .number ≡ BADTEXT
           → ⊥
       by-length true e = not-badtext (REFUSES TooLong) (λ q is n. let same : TooLong ≡ q = cc in omega (arith, ap roll-refusal-number same, n)) e
       by-length false e = not-badtext (judged edition-1 (take used buffer)) (λ q is. refused-roll edition-1 (take used buffer) is) e

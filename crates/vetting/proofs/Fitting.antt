@@ -1,28 +1,30 @@
 -- Words that fit by themselves: how the code judges one, what one that fits has, and how a row of them is read.
-use Prim.Native.Nat.{ℕ, zero, suc, _+_, _-_, _≤_}
+use Prim.Native.Nat.{ℕ, zero, suc, _-_, _≤_}
 use mathlib.Core.Path.{_≡_, refl, ap, ap₂, sym, subst, _∙_}
 use mathlib.Core.Bool.{Bool, true, false, cond, not, _&&_}
 use mathlib.Core.List.{List, _∷_}
 use native.Mathlib.Omega.{arith}
 use borrow.Author.Tests.{eqb-false, eqb-true, not-true}
 use lib.Dec.{eqb, leb}
-use lib.ListN.{length, take, drop, length-drop}
-use lib.Seq.{drop-cons, drop-length, length-take-le}
+use lib.ListN.{length, drop}
+use lib.Seq.{drop-cons, drop-length}
 use Rattle.kinds.specs.Limits.{Limits, standard, tokenLimit}
 use Rattle.plan.specs.Pieces.{Shows, pieces}
 use Rattle.plan.specs.Read.{acceptable}
 use Rattle.plan.specs.Token.{allowed}
 use Rattle.plan.proofs.Acceptable.{acceptable-plan}
-use Rattle.plan.proofs.Tests.{and-false, and-true}
+use Rattle.kinds.proofs.Tests.{and-false, and-true}
 use Rattle.plan.proofs.Tokens.{allowed-parts}
 use Rattle.stored.specs.Counted.{AtFront, CUT, FRONT}
-use Rattle.stored.specs.Places.{run-at}
-use Rattle.stored.specs.declared.RunAt.the-variants.{Whole}
-use Rattle.stored.proofs.Places.{run-found}
+use Rattle.stored.specs.Places.{runs-at}
+use Rattle.stored.specs.Spans.{part}
+use Rattle.stored.specs.declared.Span.{Span}
+use Rattle.stored.specs.declared.RunsAt.the-variants.{Both}
+use Rattle.stored.proofs.Pairs.{runs-found}
 use Rattle.words.specs.Linking.{Word, listed, percent, stock-token}
-use Rattle.words.specs.Stock.{fits, is-name, word}
+use Rattle.words.specs.Stock.{fits, is-name, nameLimit, word}
 use Rattle.shelf.specs.Shelf.{Readable}
-use Rattle.shelf.proofs.Words.{word-whole}
+use Rattle.words.proofs.Word.{word-found}
 use Rattle.vetting.specs.Vetting.{FitThere, Fitting, fit-front, fitting, is-new-name, next-fitting}
 
 -- One word, judged by itself.
@@ -34,72 +36,45 @@ module _ (list : List ℕ) (older : List Word) (at : ℕ) where
   unfit-cut e = ap (fit-front standard older) e
 
   -- both its runs are whole
-  module _ {from len start size : ℕ} (found : run-at list at ≡ Whole from len) (read : run-at list (from + len) ≡ Whole start size) where
-    -- the two parts, as the code cuts them out
-    abbrev name : List ℕ
-    name = take (from + len - from) (drop from list)
-
-    abbrev text : List ℕ
-    text = take (start + size - start) (drop start list)
-
-    abbrev which : Word
-    which = record { name = name; text = text }
-
-    -- they are the word that stands there
-    there : word (drop at list) ≡ FRONT which (drop (start + size) list)
-    there =
-        let one : len ≡ from + len - from = omega arith in
-        let two : size ≡ start + size - start = omega arith in
-        word-whole list at found read
-        ∙ ap₂ (λ j k. FRONT (record { name = take j (drop from list); text = take k (drop start list) }) (drop (start + size) list)) one two
-
+  module _ {name text : Span} (found : runs-at list at ≡ Both name text) where
     -- a word fits when its name is new and its text acceptable
-    fit-parts : fit-front standard older (word (drop at list)) ≡ (is-new-name older name && acceptable standard text)
+    fit-parts : fit-front standard older (word (drop at list)) ≡ (is-new-name older (part list name) && acceptable standard (part list text))
     unfolding fit-front fits is-name
-    fit-parts = ap (fit-front standard older) there ∙ moved (is-name standard name) (not (listed (percent ∷ name) older)) (acceptable standard text)
+    fit-parts =
+        ap (fit-front standard older) (word-found list at found)
+        ∙ moved (is-name standard (part list name)) (not (listed (percent ∷ part list name) older)) (acceptable standard (part list text))
       where
         moved : (a b c : Bool) → (a && (b && c)) ≡ ((a && b) && c)
         moved true b c = refl
         moved false b c = refl
 
     -- what was found of the name
-    module _ {r : Bool} (new : r ≡ is-new-name older name) where
+    module _ {r : Bool} (new : r ≡ is-new-name older (part list name)) where
       -- it is not a new name
       pub unfit-name : r ≡ false → fit-front standard older (word (drop at list)) ≡ false
-      unfit-name e = fit-parts ∙ ap (_&& acceptable standard text) (sym new ∙ e)
+      unfit-name e = fit-parts ∙ ap (_&& acceptable standard (part list text)) (sym new ∙ e)
 
       -- the text is not acceptable
-      pub unfit-text : {q : Bool} → q ≡ acceptable standard text → q ≡ false → fit-front standard older (word (drop at list)) ≡ false
+      pub unfit-text : {q : Bool} → q ≡ acceptable standard (part list text) → q ≡ false → fit-front standard older (word (drop at list)) ≡ false
       unfit-text read-as e =
-          fit-parts ∙ ap (is-new-name older name &&_) (sym read-as ∙ e)
-          ∙ and-false (is-new-name older name)
+          fit-parts ∙ ap (is-new-name older (part list name) &&_) (sym read-as ∙ e)
+          ∙ and-false (is-new-name older (part list name))
 
       -- both are right
-      pub fit-there : r ≡ true → {q : Bool} → q ≡ acceptable standard text → q ≡ true → FitThere list older at (start + size)
+      pub fit-there : r ≡ true → {q : Bool} → q ≡ acceptable standard (part list text) → q ≡ true → FitThere list older at name text
       unfolding fit-front
       fit-there e read-as h =
-          let (begins, long, front) = run-found list at found in
-          let (begins-too, long-too, front-too) = run-found list (from + len) read in
           record {
-            which = which;
-            there = there;
-            fit = sym (ap (fit-front standard older) there) ∙ fit-parts ∙ ap₂ _&&_ (sym new ∙ e) (sym read-as ∙ h);
-            behind =
-                omega (
-                  arith,
-                  begins,
-                  begins-too,
-                  length-take-le (from + len - from) (drop from list) (omega (arith, length-drop from list)),
-                  length-take-le (start + size - start) (drop start list) (omega (arith, length-drop start list)),
-                );
-            within = long-too;
+            there = word-found list at found;
+            fit = sym (ap (fit-front standard older) (word-found list at found)) ∙ fit-parts ∙ ap₂ _&&_ (sym new ∙ e) (sym read-as ∙ h);
+            stand = runs-found list at found;
           }
 
 -- A word that fits, part by part.
 
 pub record FitWord (older : List Word) (w : Word) : Type 0 where
   pub new : listed (stock-token w) older ≡ false
-  pub short : length (w .name) ≤ 61
+  pub short : length (w .name) ≤ nameLimit
   pub reads : Readable (w .text)
 
 -- a word that passes all the tests passes each

@@ -11,10 +11,10 @@ use lib.Seq.{drop-drop, drop-length}
 use Rattle.kinds.specs.Limits.{standard, tokenLimit}
 use Rattle.plan.specs.declared.Character.the-variants.{Malformed, Whole}
 use Rattle.plan.specs.Token.{all-permitted, allowed, character, may-hold, permits}
-use Rattle.plan.proofs.Tests.{and-false}
+use Rattle.kinds.proofs.Tests.{and-false}
 use Rattle.plan.proofs.Utf8.{character-width}
 use Rattle.words.specs.Linking.{percent}
-use Rattle.words.specs.Stock.{is-name}
+use Rattle.words.specs.Stock.{is-name, nameLimit}
 
 -- passing over bytes is leaving them out
 skipped : (skip : ℕ) (bs : List ℕ) → all-permitted skip bs ≡ all-permitted 0 (drop skip bs)
@@ -91,12 +91,12 @@ module _ (name : List ℕ) where
   all = rw (le-leb 1 (suc (length name)) (omega arith)) refl
 
   -- one that is longer than a token has room for is none
-  pub name-long : 61 < length name → false ≡ is-name standard name
+  pub name-long : nameLimit < length name → false ≡ is-name standard name
   unfolding is-name
   name-long h = sym (rw (all, lt-leb (suc (length name) + 2) tokenLimit (omega arith)) (and-false (leb 1 (length name))))
 
   -- of any other its characters decide
-  pub name-told : {r : Bool} → (length name ≡ 0 → ⊥) → (61 < length name → ⊥) → r ≡ all-permitted 0 name → r ≡ is-name standard name
+  pub name-told : {r : Bool} → (length name ≡ 0 → ⊥) → (nameLimit < length name → ⊥) → r ≡ all-permitted 0 name → r ≡ is-name standard name
   unfolding is-name
   name-told some short e =
       e ∙ sym (rw (all, le-leb 1 (length name) (omega arith), le-leb (suc (length name) + 2) tokenLimit (omega arith)) refl)

@@ -1,4 +1,4 @@
--- Keeping where the words of a list begin: storing the place of one more, and what the loop knows that finds them.
+-- Keeping where the words of a list stand: storing the spans of one more, and what the loop knows that finds them.
 use Prim.Native.Nat.{ℕ, zero, suc, _+_, _*_, _-_, _≤_, _<_}
 use mathlib.Core.Path.{_≡_, refl, ap, ap₂, sym, subst, _∙_}
 use mathlib.Core.Bool.{Bool, true, false}
@@ -6,17 +6,21 @@ use mathlib.Core.List.{List, [], _∷_}
 use native.Mathlib.Omega.{arith}
 use borrow.Author.Tests.{eqb-false, eqb-true}
 use lib.Dec.{eqb}
-use lib.ListN.{length, drop, getD, set, length-set}
-use lib.Seq.{getD-set-other, getD-set-same}
-use Rattle.kinds.specs.Limits.{standard}
-use Rattle.stored.specs.Counted.{FRONT}
+use lib.ListN.{length, drop}
+use Rattle.kinds.specs.Limits.{standard, textLimit}
+use Rattle.stored.specs.Counted.{largest}
+use Rattle.stored.specs.Spans.{SpanWithin}
+use Rattle.stored.specs.declared.Span.{Span}
+use Rattle.stored.proofs.Pairs.{part-long}
 use Rattle.words.specs.Linking.{Word, listed, stock-token}
-use Rattle.words.specs.Stock.{word, wordLimit}
-use Rattle.shelf.specs.Shelf.{Readable, Shelved, WordThere, word-from, word-of, word-told, words-to}
+use Rattle.words.specs.Stock.{nameLimit, word, wordLimit}
+use Rattle.shelf.specs.Shelf.{Readable, Shelved, word-in, word-of, words-to}
+use Rattle.shelf.specs.Spans.{WordKept, with-word, wordNumbers}
+use Rattle.shelf.proofs.Keeping.{kept-long, name-new, name-stays, text-new, text-stays}
 use Rattle.vetting.specs.Vetting.{FitThere, OwnNames, fit-front, fitting}
 use Rattle.vetting.proofs.Fitting.{FitWord, at-end, fit-word, goes-on, next-word, stops}
 
--- Storing the place of the word of a rank.
+-- Storing the spans of the word of a rank.
 
 -- what holds of the ranks below one, and of it, holds of the ranks below the next
 by-rank : (P : ℕ → Type 0) (n : ℕ) → ((r : ℕ) → r < n → P r) → P n → (r : ℕ) → r < n + 1 → P r
@@ -26,74 +30,84 @@ by-rank P n below here r h = go (eqb r n) refl
     go true e = subst P (sym (eqb-true r n e)) here
     go false e = below r (omega (arith, eqb-false r n e))
 
-module _ (list starts : List ℕ) (rank at : ℕ) (room : rank < length starts) where
-  -- it changes no place, and so no word, of a smaller rank
-  place-kept : (r : ℕ) → r < rank → getD starts r 0 ≡ getD (set starts rank at) r 0
-  place-kept r h = sym (getD-set-other starts rank r at 0 (λ e. omega arith))
+module _ (list spans : List ℕ) (rank : ℕ) (name text : Span) (room : wordNumbers * rank + 3 < length spans) where
+  -- the spans with the word's among them
+  abbrev new-spans : List ℕ
+  new-spans = with-word spans rank name text
 
-  word-kept : (r : ℕ) → r < rank → word-of list starts r ≡ word-of list (set starts rank at) r
+  -- it changes no word of a smaller rank
+  word-stays : (r : ℕ) → r < rank → word-of list spans r ≡ word-of list new-spans r
   unfolding word-of
-  word-kept r h = ap (word-from list) (place-kept r h)
+  word-stays r h = ap₂ (word-in list) (sym (name-stays spans rank name text room r h)) (sym (text-stays spans rank name text room r h))
 
-  words-kept : (n : ℕ) → n ≤ rank → words-to list starts n ≡ words-to list (set starts rank at) n
+  words-stay : (n : ℕ) → n ≤ rank → words-to list spans n ≡ words-to list new-spans n
   unfolding words-to
-  words-kept zero h = refl
-  words-kept (suc n) h = ap₂ _∷_ (word-kept n (omega arith)) (words-kept n (omega arith))
+  words-stay zero h = refl
+  words-stay (suc n) h = ap₂ _∷_ (word-stays n (omega arith)) (words-stay n (omega arith))
 
-  -- and it makes the word that begins there the rank's
-  module _ {which : Word} {rest : List ℕ} (there : word (drop at list) ≡ FRONT which rest) where
-    place-new : getD (set starts rank at) rank 0 ≡ at
-    place-new = getD-set-same starts rank at 0 room
+  -- and makes the word that stands there the rank's
+  word-new : word-of list new-spans rank ≡ word-in list name text
+  unfolding word-of
+  word-new = ap₂ (word-in list) (name-new spans rank name text room) (text-new spans rank name text room)
 
-    word-new : word-of list (set starts rank at) rank ≡ which
-    unfolding word-of word-from
-    word-new = ap (word-from list) place-new ∙ ap word-told there
+  words-new : word-in list name text ∷ words-to list spans rank ≡ words-to list new-spans (rank + 1)
+  unfolding words-to
+  words-new =
+      let next : suc rank ≡ rank + 1 = omega arith in
+      ap₂ _∷_ (sym word-new) (words-stay rank (omega arith)) ∙ ap (words-to list new-spans) next
 
-    words-new : which ∷ words-to list starts rank ≡ words-to list (set starts rank at) (rank + 1)
-    unfolding words-to
-    words-new =
-        let next : suc rank ≡ rank + 1 = omega arith in
-        ap₂ _∷_ (sym word-new) (words-kept rank (omega arith)) ∙ ap (words-to list (set starts rank at)) next
+  module _ (w : FitWord (words-to list spans rank) (word-in list name text)) where
+    -- the words are kept, and their texts read, as before
+    shelved-new : SpanWithin list name → SpanWithin list text → Shelved list spans rank → Shelved list new-spans (rank + 1)
+    shelved-new in-name in-text s =
+        record {
+          kept = by-rank (WordKept list new-spans) rank (λ r h. kept-on r h (s .kept r h)) here;
+          reads =
+              by-rank (λ r. Readable (word-of list new-spans r .text)) rank
+              (λ r h. subst (λ (v : Word). Readable (v .text)) (word-stays r h) (s .reads r h))
+              (subst (λ (v : Word). Readable (v .text)) (sym word-new) (w .reads));
+        }
+      where
+        kept-on : (r : ℕ) → r < rank → WordKept list spans r → WordKept list new-spans r
+        kept-on r h k =
+            record {
+              room = omega (arith, kept-long spans rank name text room, k .room);
+              name = subst (SpanWithin list) (sym (name-stays spans rank name text room r h)) (k .name);
+              text = subst (SpanWithin list) (sym (text-stays spans rank name text room r h)) (k .text);
+            }
 
-    module _ (w : FitWord (words-to list starts rank) which) where
-      -- the words are whole, and their texts read, as before
-      shelved-new : Shelved list starts rank → Shelved list (set starts rank at) (rank + 1)
-      shelved-new s =
-          record {
-            long = omega (arith, length-set starts rank at);
-            there =
-                by-rank (λ r. WordThere list (getD (set starts rank at) r 0)) rank (λ r h. subst (WordThere list) (place-kept r h) (s .there r h))
-                (subst (WordThere list) (sym place-new) (record { which = which; rest = rest; is = there }));
-            reads =
-                by-rank (λ r. Readable (word-of list (set starts rank at) r .text)) rank
-                (λ r h. subst (λ (v : Word). Readable (v .text)) (word-kept r h) (s .reads r h))
-                (subst (λ (v : Word). Readable (v .text)) (sym word-new) (w .reads));
-          }
+        here : WordKept list new-spans rank
+        here =
+            record {
+              room = omega (arith, kept-long spans rank name text room);
+              name = subst (SpanWithin list) (sym (name-new spans rank name text room)) in-name;
+              text = subst (SpanWithin list) (sym (text-new spans rank name text room)) in-text;
+            }
 
-      -- .. and have names of their own
-      own-new : OwnNames list starts rank → OwnNames list (set starts rank at) (rank + 1)
-      own-new own =
-          by-rank (λ r. listed (stock-token (word-of list (set starts rank at) r)) (words-to list (set starts rank at) r) ≡ false) rank
-          (λ r h. ap₂ (λ v ws. listed (stock-token v) ws) (sym (word-kept r h)) (sym (words-kept r (omega arith))) ∙ own r h)
-          (ap₂ (λ v ws. listed (stock-token v) ws) word-new (sym (words-kept rank (omega arith))) ∙ w .new)
+    -- .. and have names of their own
+    own-new : OwnNames list spans rank → OwnNames list new-spans (rank + 1)
+    own-new own =
+        by-rank (λ r. listed (stock-token (word-of list new-spans r)) (words-to list new-spans r) ≡ false) rank
+        (λ r h. ap₂ (λ v ws. listed (stock-token v) ws) (sym (word-stays r h)) (sym (words-stay r (omega arith))) ∙ own r h)
+        (ap₂ (λ v ws. listed (stock-token v) ws) word-new (sym (words-stay rank (omega arith))) ∙ w .new)
 
 -- What the loop knows: the words found so far, and that the rest of the list decides.
-pub record ShelvedSoFar (list starts : List ℕ) (count rank at : ℕ) : Type 0 where
+pub record ShelvedSoFar (list spans : List ℕ) (count rank at : ℕ) : Type 0 where
   pub low : rank ≤ count
   pub few : count ≤ wordLimit
-  pub room : wordLimit ≤ length starts
+  pub room : wordNumbers * wordLimit ≤ length spans
   pub within : at ≤ length list
-  -- a name has at most 61 bytes, a text so many as it may have, and each a count of four bytes: a place fits in 32 bits
-  pub near : at ≤ 4 + rank * 1048645
-  pub decides : fitting standard count [] (drop 4 list) ≡ fitting standard (count - rank) (words-to list starts rank) (drop at list)
-  pub shelved : Shelved list starts rank
-  pub own : OwnNames list starts rank
+  -- a name and a text have so many bytes as they may have, and each a count of four: a place fits in 32 bits
+  pub near : at ≤ 4 + rank * (8 + nameLimit + textLimit)
+  pub decides : fitting standard count [] (drop 4 list) ≡ fitting standard (count - rank) (words-to list spans rank) (drop at list)
+  pub shelved : Shelved list spans rank
+  pub own : OwnNames list spans rank
 
 -- before any word
-pub shelve-first : {list starts : List ℕ} {count : ℕ} → count ≤ wordLimit → wordLimit ≤ length starts → 4 ≤ length list
-    → ShelvedSoFar list starts count 0 4
+pub shelve-first : {list spans : List ℕ} {count : ℕ} → count ≤ wordLimit → wordNumbers * wordLimit ≤ length spans → 4 ≤ length list
+    → ShelvedSoFar list spans count 0 4
 unfolding words-to
-shelve-first {list} {starts} {count} few room long =
+shelve-first {list} {spans} {count} few room long =
     record {
       low = omega arith;
       few = few;
@@ -101,13 +115,13 @@ shelve-first {list} {starts} {count} few room long =
       within = long;
       near = omega arith;
       decides = ap (λ k. fitting standard k [] (drop 4 list)) (let z : count ≡ count - 0 = omega arith in z);
-      shelved = record { long = omega arith; there = λ r h. absurd (omega arith); reads = λ r h. absurd (omega arith) };
+      shelved = record { kept = λ r h. absurd (omega arith); reads = λ r h. absurd (omega arith) };
       own = λ r h. absurd (omega arith);
     }
 
-module _ {list starts : List ℕ} {count rank at : ℕ} (inv : ShelvedSoFar list starts count rank at) where
+module _ {list spans : List ℕ} {count rank at : ℕ} (inv : ShelvedSoFar list spans count rank at) where
   abbrev older : List Word
-  older = words-to list starts rank
+  older = words-to list spans rank
 
   -- the next word does not fit
   pub shelve-stop : rank < count → fit-front standard older (word (drop at list)) ≡ false
@@ -122,21 +136,36 @@ module _ {list starts : List ℕ} {count rank at : ℕ} (inv : ShelvedSoFar list
       let none : count - rank ≡ 0 = omega arith in
       inv .decides ∙ ap (λ k. fitting standard k older (drop at list)) none ∙ at-end standard older list at (inv .within)
 
-  -- the next word fits, and its place is stored
-  pub shelve-on : rank < count → {next : ℕ} → FitThere list older at next → ShelvedSoFar list (set starts rank at) count (rank + 1) next
-  shelve-on h {next} f =
-      let w = fit-word older (f .which) (f .fit) in
-      let inside : rank < length starts = omega (arith, inv .few, inv .room) in
-      let less : count - rank - 1 ≡ count - (rank + 1) = omega arith in
-      record {
-        low = omega arith;
-        few = inv .few;
-        room = omega (arith, inv .room, length-set starts rank at);
-        within = f .within;
-        near = omega (arith, inv .near, f .behind, w .short, w .reads .short);
-        decides =
-            inv .decides ∙ goes-on standard older (count - rank) (drop at list) (omega arith) (f .there) (f .fit)
-            ∙ ap₂ (λ k ws. fitting standard k ws (drop next list)) less (words-new list starts rank at inside (f .there));
-        shelved = shelved-new list starts rank at inside (f .there) w (inv .shelved);
-        own = own-new list starts rank at inside (f .there) w (inv .own);
-      }
+  -- the next word fits
+  module _ (h : rank < count) {name text : Span} (f : FitThere list older at name text) where
+    fit : FitWord older (word-in list name text)
+    fit = fit-word older (word-in list name text) (f .fit)
+
+    -- where it stands can be kept
+    near-next : text .at + text .len ≤ 4 + (rank + 1) * (8 + nameLimit + textLimit)
+    near-next =
+        omega (arith, inv .near, f .stand .place, f .stand .place₂, fit .short, fit .reads .short, part-long list name (f .stand .within), part-long list text (f .stand .within₂))
+
+    pub shelve-room : wordNumbers * rank + 3 < length spans
+    shelve-room = omega (arith, inv .few, inv .room)
+
+    pub shelve-keep : (wordNumbers * rank + 3 < length spans) × (name .at + name .len ≤ largest) × (text .at + text .len ≤ largest)
+    shelve-keep = (shelve-room, omega (arith, near-next, inv .few, f .stand .place₂), omega (arith, near-next, inv .few))
+
+    -- and is kept
+    pub shelve-on : {spans′ : List ℕ} → spans′ ≡ with-word spans rank name text → ShelvedSoFar list spans′ count (rank + 1) (text .at + text .len)
+    shelve-on {spans′} e =
+        let less : count - rank - 1 ≡ count - (rank + 1) = omega arith in
+        subst (λ l. ShelvedSoFar list l count (rank + 1) (text .at + text .len)) (sym e)
+        (record {
+          low = omega arith;
+          few = inv .few;
+          room = omega (arith, inv .room, kept-long spans rank name text shelve-room);
+          within = f .stand .within₂;
+          near = near-next;
+          decides =
+              inv .decides ∙ goes-on standard older (count - rank) (drop at list) (omega arith) (f .there) (f .fit)
+              ∙ ap₂ (λ k ws. fitting standard k ws (drop (text .at + text .len) list)) less (words-new list spans rank name text shelve-room);
+          shelved = shelved-new list spans rank name text shelve-room fit (f .stand .within) (f .stand .within₂) (inv .shelved);
+          own = own-new list spans rank name text shelve-room fit (inv .own);
+        })

@@ -143,27 +143,27 @@ module _ (list : List ℕ) where
     counted h = by-count ∙ ap (λ b. cond b (stocked standard count [] (drop 4 list)) (FAULT wordLimit)) (le-leb count wordLimit h)
 
     -- what was found of its words
-    module _ (few : count ≤ wordLimit) (starts : List ℕ) (fit : ℕ) {early : ℕ} {whole : Bool}
-        (told : fitting standard count [] (drop 4 list) ≡ record { words = words-to list starts fit; whole = whole })
-        (least : early ≡ earliest tokenLimit (words-to list starts fit)) where
+    module _ (few : count ≤ wordLimit) (spans : List ℕ) (fit : ℕ) {early : ℕ} {whole : Bool}
+        (told : fitting standard count [] (drop 4 list) ≡ record { words = words-to list spans fit; whole = whole })
+        (least : early ≡ earliest tokenLimit (words-to list spans fit)) where
       -- then the words that fit, and the least of them that is used early
-      by-words : stock standard list ≡ cond (ltb early fit) (FAULT early) (cond whole (WORDS (words-to list starts fit)) (FAULT fit))
+      by-words : stock standard list ≡ cond (ltb early fit) (FAULT early) (cond whole (WORDS (words-to list spans fit)) (FAULT fit))
       unfolding verdict earliest
       by-words =
-          counted few ∙ stocked-fitting standard count [] (drop 4 list) refl ∙ ap (verdict tokenLimit) told ∙ rw (many list starts fit, sym least) refl
+          counted few ∙ stocked-fitting standard count [] (drop 4 list) refl ∙ ap (verdict tokenLimit) told ∙ rw (many list spans fit, sym least) refl
 
       -- one is used early
       pub used-early : early < fit → stock standard list ≡ FAULT early
-      used-early h = by-words ∙ ap (λ b. cond b (FAULT early) (cond whole (WORDS (words-to list starts fit)) (FAULT fit))) (lt-ltb early fit h)
+      used-early h = by-words ∙ ap (λ b. cond b (FAULT early) (cond whole (WORDS (words-to list spans fit)) (FAULT fit))) (lt-ltb early fit h)
 
       -- none is
-      not-early : fit ≤ early → stock standard list ≡ cond whole (WORDS (words-to list starts fit)) (FAULT fit)
-      not-early h = by-words ∙ ap (λ b. cond b (FAULT early) (cond whole (WORDS (words-to list starts fit)) (FAULT fit))) (le-ltb early fit h)
+      not-early : fit ≤ early → stock standard list ≡ cond whole (WORDS (words-to list spans fit)) (FAULT fit)
+      not-early h = by-words ∙ ap (λ b. cond b (FAULT early) (cond whole (WORDS (words-to list spans fit)) (FAULT fit))) (le-ltb early fit h)
 
       -- and the words are all
-      pub all-right : fit ≤ early → whole ≡ true → stock standard list ≡ WORDS (words-to list starts fit)
-      all-right h e = not-early h ∙ ap (λ b. cond b (WORDS (words-to list starts fit)) (FAULT fit)) e
+      pub all-right : fit ≤ early → whole ≡ true → stock standard list ≡ WORDS (words-to list spans fit)
+      all-right h e = not-early h ∙ ap (λ b. cond b (WORDS (words-to list spans fit)) (FAULT fit)) e
 
       -- but the next does not fit, or bytes are behind the last
       pub not-whole : fit ≤ early → whole ≡ false → stock standard list ≡ FAULT fit
-      not-whole h e = not-early h ∙ ap (λ b. cond b (WORDS (words-to list starts fit)) (FAULT fit)) e
+      not-whole h e = not-early h ∙ ap (λ b. cond b (WORDS (words-to list spans fit)) (FAULT fit)) e

@@ -9,16 +9,18 @@ use lib.ListN.{length, drop}
 use Rattle.kinds.specs.Limits.{Limits, standard}
 use Rattle.plan.specs.Pieces.{Piece}
 use Rattle.stored.specs.Counted.{AtFront, CUT, FRONT}
+use Rattle.stored.specs.declared.Span.{Span}
+use Rattle.stored.proofs.Pairs.{RunsFound}
 use Rattle.words.specs.Linking.{Word, listed, percent, stock-token, used}
 use Rattle.words.specs.Stock.{FAULT, Stock, WORDS, fits, is-name, word, wordLimit}
-use Rattle.shelf.specs.Shelf.{Shelved, seek-piece, word-of, words-to}
+use Rattle.shelf.specs.Shelf.{Shelved, seek-piece, word-in, word-of, words-to}
 use Rattle.shelf.specs.declared.Named.{Named}
 use Rattle.shelf.specs.declared.Named.the-variants.{Unlisted, Listed}
 use Rattle.vetting.specs.declared.Vetted.{Vetted}
 use Rattle.vetting.specs.declared.Vetted.the-variants.{Bad, Words}
 use Rattle.vetting.specs.declared.Shelf.{Shelf}
-use Rattle.vetting.specs.declared.WordEnd.{WordEnd}
-use Rattle.vetting.specs.declared.WordEnd.the-variants.{Unfit, Fit}
+use Rattle.vetting.specs.declared.WordThere.{WordThere}
+use Rattle.vetting.specs.declared.WordThere.the-variants.{Unfit, Fit}
 
 -- the words that fit, the newest first; and whether they are all, with no byte behind them
 pub record Fitting : Type 0 where
@@ -46,8 +48,8 @@ abbrev pub is-new-name : (older : List Word) → List ℕ → Bool
 is-new-name older name = is-name standard name && not (listed (percent ∷ name) older)
 
 -- the words of the ranks below n have names of their own
-abbrev pub OwnNames : (list starts : List ℕ) → (n : ℕ) → Type 0
-OwnNames list starts n = (r : ℕ) → suc r ≤ n → listed (stock-token (word-of list starts r)) (words-to list starts r) ≡ false
+abbrev pub OwnNames : (list spans : List ℕ) → (n : ℕ) → Type 0
+OwnNames list spans n = (r : ℕ) → suc r ≤ n → listed (stock-token (word-of list spans r)) (words-to list spans r) ≡ false
 
 -- the lower of a bound and the rank that was found, where that is not below `rank`
 abbrev pub lower : Named → (rank bound : ℕ) → ℕ
@@ -55,35 +57,33 @@ lower Unlisted rank bound = bound
 lower (Listed found) rank bound = cond (ltb found rank) bound found
 
 -- the least rank from `rank` up to the bound that the pieces name, else the bound
-unfoldable pub lowered : {L : Type 0} → (list starts : List ℕ) → (rank bound : ℕ) → List (Piece L) → ℕ
-lowered list starts rank bound [] = bound
-lowered list starts rank bound (x ∷ ps) = lowered list starts rank (lower (seek-piece list starts bound x) rank bound) ps
+unfoldable pub lowered : {L : Type 0} → (list spans : List ℕ) → (rank bound : ℕ) → List (Piece L) → ℕ
+lowered list spans rank bound [] = bound
+lowered list spans rank bound (x ∷ ps) = lowered list spans rank (lower (seek-piece list spans bound x) rank bound) ps
 
 -- one word judged by itself and beside the names before it, at a place, behind words that fit
-pub record FitThere (list : List ℕ) (older : List Word) (at next : ℕ) : Type 0 where
-  pub which : Word
-  pub there : word (drop at list) ≡ FRONT which (drop next list)
-  pub fit : fits standard older which ≡ true
-  pub behind : next ≡ at + 8 + length (which .name) + length (which .text)
-  pub within : next ≤ length list
+pub record FitThere (list : List ℕ) (older : List Word) (at : ℕ) (name text : Span) : Type 0 where
+  pub there : word (drop at list) ≡ FRONT (word-in list name text) (drop (text .at + text .len) list)
+  pub fit : fits standard older (word-in list name text) ≡ true
+  pub stand : RunsFound list at name text
 
 unfoldable pub fit-front : Limits → (older : List Word) → AtFront Word → Bool
 fit-front lim older CUT = false
 fit-front lim older (FRONT w rest) = fits lim older w
 
-abbrev pub EndTells : (list : List ℕ) → (older : List Word) → (at : ℕ) → WordEnd → Type 0
-EndTells list older at Unfit = fit-front standard older (word (drop at list)) ≡ false
-EndTells list older at (Fit next) = FitThere list older at next
+abbrev pub ThereTells : (list : List ℕ) → (older : List Word) → (at : ℕ) → WordThere → Type 0
+ThereTells list older at Unfit = fit-front standard older (word (drop at list)) ≡ false
+ThereTells list older at (Fit name text) = FitThere list older at name text
 
 -- the words that were found to fit
-abbrev pub shelf-told : (list starts : List ℕ) → Shelf → Fitting
-shelf-told list starts s = record { words = words-to list starts (s .fit); whole = s .whole }
+abbrev pub shelf-told : (list spans : List ℕ) → Shelf → Fitting
+shelf-told list spans s = record { words = words-to list spans (s .fit); whole = s .whole }
 
 -- what was found of the whole list
-abbrev pub vetted-told : (list starts : List ℕ) → Vetted → Stock
-vetted-told list starts (Bad rank) = FAULT rank
-vetted-told list starts (Words count) = WORDS (words-to list starts count)
+abbrev pub vetted-told : (list spans : List ℕ) → Vetted → Stock
+vetted-told list spans (Bad rank) = FAULT rank
+vetted-told list spans (Words count) = WORDS (words-to list spans count)
 
-abbrev pub VettedShelved : (list starts : List ℕ) → Vetted → Type 0
-VettedShelved list starts (Bad rank) = Unit {0}
-VettedShelved list starts (Words count) = Shelved list starts count × (count ≤ wordLimit)
+abbrev pub VettedShelved : (list spans : List ℕ) → Vetted → Type 0
+VettedShelved list spans (Bad rank) = Unit {0}
+VettedShelved list spans (Words count) = Shelved list spans count × (count ≤ wordLimit)

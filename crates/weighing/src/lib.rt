@@ -1,129 +1,83 @@
-// Whether the entry at a place of a roll obeys the rules, and what it adds to the tally.
+// What is wrong with an entry behind those of a roll, or that nothing is. This one answer serves both: the reader refuses a roll by it,
+// and adding tells it.
 ghost use mathlib.Core.Path.{_≡_};
-ghost use mathlib.Core.List.{List, reverse};
-ghost use Rattle.kinds.specs.Limits.{standard};
-ghost use Rattle.entries.specs.Entries.{SpanWithin, part};
-ghost use lib.ListN.{drop};
-ghost use Rattle.filing.specs.Format.{Entry, entry};
-ghost use Rattle.filing.specs.Rules.{DONE, FILED, is-finished, is-job, is-printed, standing};
-ghost use Rattle.filing.specs.EntriesStand.{EntriesStand};
-ghost use Rattle.standing.specs.Looking.{StandingWithin, standing-told};
-ghost use Rattle.weighing.specs.Weighed.{Weighable, entry-weighed, weighed};
-use entries::EntryAt;
-use entries::Span;
-use entries::entry_at;
+ghost use Prim.Native.Nat.{ℕ};
+ghost use Rattle.filing.specs.Answers.{parts-of};
+ghost use Rattle.filing.specs.EntriesStand.{Behind, StandsBefore};
+ghost use Rattle.weighing.specs.Weighed.{weighed-at, weighed-done, weighed-filed};
+use filing::EntryKind;
+use filing::RollRefusal;
+use finished::is_finished;
 use standing::StandingAt;
 use standing::is_job;
 use standing::is_printed;
 use standing::look_back;
-use standing::reads_finished;
+use stored::part;
 
 pub enum Weighed {
-    Torn,
-    Broken,
-    // Where the next entry would stand, and whether this one counts as a job filed, or done.
-    Fine {
-        next: usize,
-        filed: bool,
-        done: bool,
-    },
+    // Whether it counts as a job filed, or done.
+    Fine { filed: bool, done: bool },
+    Faulty(RollRefusal),
 }
 
-// The leaves, asked of bytes of the roll.
-fn job_there(roll: &[u8], job: Span) -> bool
-    requires { ⌜ SpanWithin (now roll) job ⌝ }
-    ensures { λ r. ⌜ r ≡ is-job (part (now (roll .entry)) job) ⌝ }
+// A FILED of a job number: its text, and how the job stands.
+fn weigh_filed(roll: &[u8], upto: usize, job: &[u8], text: &[u8]) -> Weighed
+    requires { ⌜ StandsBefore (now roll) upto ⌝ }
+    ensures { λ r. ⌜ Behind (now (roll .entry)) upto (λ past. r ≡ weighed-filed past (now (job .entry)) (now (text .entry))) ⌝ }
 {
-    let from = job.at;
-    let end = from + job.len;
-    is_job(&roll[from..end])
-}
-
-fn printed_there(roll: &[u8], text: Span) -> bool
-    requires { ⌜ SpanWithin (now roll) text ⌝ }
-    ensures { λ r. ⌜ r ≡ is-printed standard (part (now (roll .entry)) text) ⌝ }
-{
-    let from = text.at;
-    let end = from + text.len;
-    is_printed(&roll[from..end])
-}
-
-pub fn finished_there(roll: &[u8], text: Span) -> bool
-    requires { ⌜ SpanWithin (now roll) text ⌝ }
-    ensures { λ r. ⌜ r ≡ is-finished standard (part (now (roll .entry)) text) ⌝ }
-{
-    let from = text.at;
-    let end = from + text.len;
-    reads_finished(&roll[from..end])
-}
-
-fn look_back_there(roll: &[u8], upto: usize, job: Span) -> StandingAt
-    requires { ⌜ SpanWithin (now roll) job × ((es : List Entry) × EntriesStand (now roll) 1 es upto) ⌝ }
-    ensures within { λ r. ⌜ StandingWithin (now (roll .entry)) r ⌝ }
-    ensures told { λ r. ⌜ ((es : List Entry) → EntriesStand (now (roll .entry)) 1 es upto → standing-told (now (roll .entry)) r ≡ standing (part (now (roll .entry)) job) (reverse es)) ⌝ }
-{
-    let from = job.at;
-    let end = from + job.len;
-    look_back(roll, upto, &roll[from..end])
-}
-
-fn weigh_filed(roll: &[u8], at: usize, job: Span, text: Span, next: usize) -> Weighed
-    requires { ⌜ SpanWithin (now roll) job × SpanWithin (now roll) text × ((es : List Entry) × EntriesStand (now roll) 1 es at) ⌝ }
-    ensures { λ r. ⌜ ((es : List Entry) → EntriesStand (now (roll .entry)) 1 es at → r ≡ weighed (reverse es) (FILED (part (now (roll .entry)) job) (part (now (roll .entry)) text)) next) ⌝ }
-{
-    if !job_there(roll, job) {
-        return Weighed::Broken;
+    if !is_printed(text) {
+        return Weighed::Faulty(RollRefusal::BadText);
     }
-    if !printed_there(roll, text) {
-        return Weighed::Broken;
-    }
-    match look_back_there(roll, at, job) {
+    match look_back(roll, upto, job) {
         StandingAt::Unfiled => Weighed::Fine {
-            next,
             filed: true,
             done: false,
         },
         StandingAt::Filed { at, text } => Weighed::Fine {
-            next,
-            filed: false,
+            filed: false, // It was counted when it was filed first.
             done: false,
         },
-        StandingAt::Done { at } => Weighed::Broken,
-    }
-}
-
-fn weigh_done(roll: &[u8], at: usize, job: Span, next: usize) -> Weighed
-    requires { ⌜ SpanWithin (now roll) job × ((es : List Entry) × EntriesStand (now roll) 1 es at) ⌝ }
-    ensures { λ r. ⌜ ((es : List Entry) → EntriesStand (now (roll .entry)) 1 es at → r ≡ weighed (reverse es) (DONE (part (now (roll .entry)) job)) next) ⌝ }
-{
-    if !job_there(roll, job) {
-        return Weighed::Broken;
-    }
-    match look_back_there(roll, at, job) {
-        StandingAt::Unfiled => Weighed::Broken,
-        StandingAt::Done { at } => Weighed::Broken,
-        StandingAt::Filed { at, text } => {
-            if finished_there(roll, text) {
-                return Weighed::Fine {
-                    next,
-                    filed: false,
-                    done: true,
-                };
-            }
-            Weighed::Broken
+        StandingAt::Done { at } => {
+            let place = at as u32;
+            Weighed::Faulty(RollRefusal::AlreadyDone(place))
         }
     }
 }
 
-// The entry at a place, behind whole entries that obey the rules.
-pub fn weigh(roll: &[u8], at: usize) -> Weighed
-    requires { ⌜ Weighable (now roll) at ⌝ }
-    ensures { λ r. ⌜ ((es : List Entry) → EntriesStand (now (roll .entry)) 1 es at → r ≡ entry-weighed (reverse es) at (entry (drop at (now (roll .entry)))) (now (roll .entry))) ⌝ }
+// A DONE of a job number: how the job stands. The text of a FILED of the roll was accepted already, so that only its end is asked.
+fn weigh_done(roll: &[u8], upto: usize, job: &[u8]) -> Weighed
+    requires { ⌜ StandsBefore (now roll) upto ⌝ }
+    ensures { λ r. ⌜ Behind (now (roll .entry)) upto (λ past. r ≡ weighed-done past (now (job .entry))) ⌝ }
 {
-    match entry_at(roll, at) {
-        EntryAt::Torn => Weighed::Torn,
-        EntryAt::Other { next } => Weighed::Broken,
-        EntryAt::Done { job, next } => weigh_done(roll, at, job, next),
-        EntryAt::Filed { job, text, next } => weigh_filed(roll, at, job, text, next),
+    match look_back(roll, upto, job) {
+        StandingAt::Unfiled => Weighed::Faulty(RollRefusal::Unfiled),
+        StandingAt::Done { at } => {
+            let place = at as u32;
+            Weighed::Faulty(RollRefusal::AlreadyDone(place))
+        }
+        StandingAt::Filed { at, text } => {
+            if is_finished(part(roll, text)) {
+                return Weighed::Fine {
+                    filed: false,
+                    done: true,
+                };
+            }
+            let place = at as u32;
+            Weighed::Faulty(RollRefusal::Unfinished(place))
+        }
+    }
+}
+
+// An entry of either kind, behind those before a place. A DONE has no text, and what is given for one is not looked at.
+pub fn weigh(roll: &[u8], upto: usize, kind: EntryKind, job: &[u8], text: &[u8]) -> Weighed
+    requires { ⌜ StandsBefore (now roll) upto ⌝ }
+    ensures { λ r. ⌜ Behind (now (roll .entry)) upto (λ past. ((place : ℕ) → r ≡ weighed-at past place (parts-of kind (now (job .entry)) (now (text .entry))))) ⌝ }
+{
+    if !is_job(job) {
+        return Weighed::Faulty(RollRefusal::BadJob);
+    }
+    match kind {
+        EntryKind::Filed => weigh_filed(roll, upto, job, text),
+        EntryKind::Done => weigh_done(roll, upto, job),
     }
 }

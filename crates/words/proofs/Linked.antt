@@ -7,7 +7,7 @@ use mathlib.Core.List.{List}
 use Rattle.plan.specs.Plan.{Plan, end, operator, token, block, _then_}
 use Rattle.plan.specs.Token.{Allowed, Name}
 use Rattle.plan.proofs.Plans.{allowed-then, then-assoc}
-use Rattle.plan.proofs.Tests.{false-is-not-true}
+use Rattle.kinds.proofs.Tests.{false-is-not-true}
 use Rattle.stored.specs.Same.{same}
 use Rattle.stored.proofs.Same.{same-equal, same-self}
 use Rattle.words.specs.Linking.{holds, in-place, link}

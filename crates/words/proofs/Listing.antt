@@ -16,7 +16,7 @@ use Rattle.kinds.specs.Limits.{Limits}
 use Rattle.plan.specs.Read.{acceptable}
 use Rattle.plan.specs.Token.{Allowed}
 use Rattle.plan.proofs.Acceptable.{acceptable-plan}
-use Rattle.plan.proofs.Tests.{and-true, false-is-not-true, never}
+use Rattle.kinds.proofs.Tests.{and-true, false-is-not-true, never}
 use Rattle.stored.specs.Counted.{AtFront, CUT, FRONT, number}
 use Rattle.stored.specs.Same.{same}
 use Rattle.stored.proofs.Same.{same-equal, same-false, same-self}

@@ -1,21 +1,25 @@
 -- A word list: a count, then for each word its name and its text, each behind its own count; and the least rank at fault.
-use Prim.Native.Nat.{ℕ, zero, suc}
+use Prim.Native.Nat.{ℕ, zero, suc, _-_}
 use mathlib.Core.Bool.{Bool, cond, not, _&&_}
 use mathlib.Core.List.{List, [], _∷_}
 use lib.Dec.{leb}
 use lib.ListN.{length}
-use Rattle.kinds.specs.Limits.{Limits}
+use Rattle.kinds.specs.Limits.{Limits, tokenLimit}
 use Rattle.plan.specs.Read.{acceptable}
 use Rattle.plan.specs.Token.{allowed}
-use Rattle.stored.specs.Counted.{AtFront, CUT, FRONT, counted, number, then-read}
+use Rattle.stored.specs.Counted.{AtFront, CUT, FRONT, number, two-counted}
 use Rattle.words.specs.Linking.{Word, listed, percent, stock-token, used}
 
 -- no list has more words
 abbrev pub wordLimit : ℕ
 wordLimit = 256
 
+-- the most bytes of a name: `{`, `%` and `}` are the token's and not the name's
+abbrev pub nameLimit : ℕ
+nameLimit = tokenLimit - 3
+
 unfoldable pub word : List ℕ → AtFront Word
-word bs = then-read (counted bs) (λ name rest. then-read (counted rest) (λ text later. FRONT (record { name = name; text = text }) later))
+word bs = two-counted (λ name text. record { name = name; text = text }) bs
 
 -- a name is not empty and makes an allowed token
 unfoldable pub is-name : Limits → (name : List ℕ) → Bool

@@ -1,6 +1,7 @@
 // What linking answers. The definitions in specs/ speak of these types, so that a promise is one equation.
 ghost use mathlib.Core.Path.{_≡_};
 ghost use Rattle.words.specs.Answers.{link-numbers, link-refusal-numbers};
+use kinds::Token;
 use numbers::Numbers;
 use numbers::given;
 use numbers::of_fault;
@@ -10,6 +11,9 @@ use plan::TextFault;
 
 // No list has more words.
 pub const MOST: u32 = 256;
+
+// The most bytes of a name: `{`, `%` and `}` are the token's and not the name's.
+pub const NAME_LIMIT: usize = Token::LIMIT - 3;
 
 // Why a call is refused, with the place that goes with it.
 pub enum LinkRefusal {

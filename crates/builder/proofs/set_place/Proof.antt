@@ -37,10 +37,9 @@ returns c =
     let second = c .before .before in
     let first = second .before .before .before .before .before in
     let closed = first .before .before .before in
-    let args = closed .before .before .before .before .args in (
-      place-stored _ _ _ (args .b) _ _ _ (closed .close .ensures) (first .set-number .ensures .0) (second .set-number2 .ensures .0),
-      aside-on (first .set-number .ensures .1) (second .set-number2 .ensures .1),
-    )
+    let args = closed .before .before .before .before .args in
+    place-stored _ _ _ (args .b) _ _ _ (closed .close .ensures) (first .set-number .ensures .0) (second .set-number2 .ensures .0)
+    (aside-on (first .set-number .ensures .1) (second .set-number2 .ensures .1))
 
 pub set-place-spec : {M : Type 1} → statement M
 set-place-spec =

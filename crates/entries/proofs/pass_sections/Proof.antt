@@ -1,10 +1,9 @@
 -- `pass_sections`: the loop's invariant is `SectionsSoFar`. The measure is how many sections are left.
-use mathlib.Core.Path.{_≡_, sym, _∙_}
+use mathlib.Core.Path.{sym, _∙_}
 use native.Mathlib.Omega.{arith}
 use borrow.Author.Needs.{needs}
-use Rattle.stored.specs.Places.{run-at}
-use Rattle.stored.specs.declared.RunAt.the-variants.{Whole}
-use Rattle.entries.proofs.Told.{SectionsSoFar, run-within, sections-end, sections-first, sections-on, sections-torn}
+use Rattle.stored.proofs.Places.{run-found}
+use Rattle.entries.proofs.Told.{SectionsSoFar, sections-end, sections-first, sections-on, sections-torn}
 use Rattle.entries.proofs.pass_sections.Statement.{statement}
 use Rattle.entries.proofs.pass_sections.Tie as tie
 
@@ -28,17 +27,11 @@ returns c =
     let n = c .before .before in
     sections-torn (n .before .before .loop .inv) (n .before .loop-test .taken) (sym (n .run-at .ensures) ∙ c .enum-told .given .1)
 
-enum-known-from : tie.Need-enum-known-from Inv-loop μ-loop
-enum-known-from c = search needs
-
-abbrev turn : tie.After-known-told Inv-loop μ-loop → tie.At-loop Inv-loop μ-loop
-turn k = k .before .before .before .before .before
-
-found : (k : tie.After-known-told Inv-loop μ-loop) → run-at (turn k .before .before .args .roll .now) (turn k .loop .at) ≡ Whole (k .before .from .given .0 .0) (k .before .from .given .0 .1 .0)
-found k = sym (k .before .before .before .run-at .ensures) ∙ k .before .from .given .1
+enum-known-section : tie.Need-enum-known-section Inv-loop μ-loop
+enum-known-section c = search needs
 
 add-at : tie.Need-add-at Inv-loop μ-loop
-add-at c = let within = run-within _ _ (found c) in search needs
+add-at c = let within = run-found _ _ (sym (c .before .before .before .before .run-at .ensures) ∙ c .before .before .section .given .1) .within in search needs
 
 sub-left : tie.Need-sub-left Inv-loop μ-loop
 sub-left c = search needs
@@ -47,7 +40,9 @@ loop-less : tie.Need-loop-less Inv-loop μ-loop
 loop-less c = search needs
 
 loop-again : tie.Need-loop-again Inv-loop μ-loop
-loop-again c = sections-on (turn c .loop .inv) (c .before .before .before .before .loop-test .taken) (found c)
+loop-again c =
+    let r = c .before .before .before .before in
+    sections-on (r .before .before .loop .inv) (r .before .loop-test .taken) (sym (r .run-at .ensures) ∙ c .before .before .section .given .1)
 
 returns-2 : tie.Need-returns-2 Inv-loop μ-loop
 returns-2 c = sections-end (c .before .loop .inv) (omega arith)
@@ -62,7 +57,7 @@ pass-sections-spec =
     run-at-requires
     enum-told
     returns
-    enum-known-from
+    enum-known-section
     add-at
     sub-left
     loop-less

@@ -1,29 +1,42 @@
 -- `opens`: the outermost start's datum is no number of the memory, every other is.
+use mathlib.Core.Path.{sym, _∙_}
 use borrow.Author.Needs.{needs}
 use Rattle.hunt.proofs.Tests.{close-opens, outermost-opens, datum-opens}
 use Rattle.hunt.proofs.opens.Statement.{statement}
 use Rattle.hunt.proofs.opens.Tie as tie
 
-returns : tie.Need-returns
-returns c = search (needs, close-opens)
+closes-requires : tie.Need-closes-requires
+closes-requires c κs = search needs
 
-mul-if2 : tie.Need-mul-if2
-mul-if2 c = search needs
+returns : tie.Need-returns
+returns c =
+    let a = c .before .before .before .args in
+    close-opens (a .outer .0) (a .memory .now) (a .first .0) (a .port .0) (sym (c .before .closes .ensures) ∙ c .if1 .taken)
+
+start-requires : tie.Need-start-requires
+start-requires c κs = search needs
 
 returns-2 : tie.Need-returns-2
-returns-2 c = outermost-opens _ _ _ _ (c .before .before .before .before .before .before .pre .0) (c .if2 .taken)
+returns-2 c =
+    let s = c .before .before .before in
+    let e = s .before in
+    outermost-opens _ _ _ _ (e .before .before .before .pre .0) (sym (e .before .closes .ensures) ∙ e .if1 .left) (c .if2 .taken ∙ s .start .ensures)
 
 kind-at-requires : tie.Need-kind-at-requires
 kind-at-requires c κs = search needs
 
-closes-requires : tie.Need-closes-requires
-closes-requires c κs = search needs
+is-block-requires : tie.Need-is-block-requires
+is-block-requires c κs = search needs
 
 returns-3 : tie.Need-returns-3
 returns-3 c =
-    let e = c .before .before .before .before .before in
+    let o = c .before .before in
+    let s = o .before .before .before in
+    let e = s .before in
     let p = e .before .before .before .pre in
-    datum-opens _ _ _ _ (p .0) (p .1) (e .if1 .left) (c .before .before .if2 .left) _ (c .before .kind-at .ensures) (c .closes .ensures)
+    datum-opens _ _ _ _ (p .0) (p .1) (sym (e .before .closes .ensures) ∙ e .if1 .left) (λ z. o .if2 .left (z ∙ sym (s .start .ensures))) _
+    (c .before .kind-at .ensures) (c .is-block .ensures)
 
 pub opens-spec : {M : Type 1} → statement M
-opens-spec = tie.close (tie.spec returns mul-if2 returns-2 kind-at-requires closes-requires returns-3)
+opens-spec =
+    tie.close (tie.spec closes-requires returns start-requires returns-2 kind-at-requires is-block-requires returns-3)

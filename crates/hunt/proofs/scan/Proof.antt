@@ -1,10 +1,9 @@
 -- `scan`: the loop's invariant is `Scanning`. The measure is how many ports are ahead.
-use native.Mathlib.Omega.{arith}
 use borrow.Author.Needs.{needs}
 use lib.ListN.{length}
 use Rattle.memory.specs.Memory.{whole}
 use Rattle.blocks.proofs.Ways.{ahead}
-use Rattle.hunt.proofs.Scanning.{Scanning, scan-small, scan-start, scan-first, scan-here, scan-next, scan-past, scan-found, scan-none}
+use Rattle.hunt.proofs.Scanning.{Scanning, scan-small, scan-start, scan-first, scan-here, scan-cell, scan-next, scan-past, scan-found, scan-none}
 use Rattle.hunt.proofs.scan.Statement.{statement}
 use Rattle.hunt.proofs.scan.Tie as tie
 
@@ -48,36 +47,32 @@ returns c =
 enum-told : tie.Need-enum-told Inv-loop μ-loop
 enum-told c = search needs
 
-closes-requires : tie.Need-closes-requires Inv-loop μ-loop
-closes-requires c κs = search needs
-
-add-t17 : tie.Need-add-t17 Inv-loop μ-loop
-add-t17 c =
-    let k = c .before .before .before .before .before in
-    let inv = k .before .before .before .before .loop .inv in
-    omega (arith, inv .lent .few, scan-next inv (k .before .if1 .taken) (k .kind-at .result) _ (c .before .closes .ensures))
+last-port-requires : tie.Need-last-port-requires Inv-loop μ-loop
+last-port-requires c κs =
+    let t = c .before .before .before .before in
+    scan-cell (t .before .before .before .loop .inv) (t .if1 .taken)
 
 link-of-requires-2 : tie.Need-link-of-requires-2 Inv-loop μ-loop
 link-of-requires-2 c κs =
-    let k = c .before .before .before .before .before in
+    let k = c .before .before .before .before in
     let inv = k .before .before .before .before .loop .inv in
-    (inv .lent, scan-next inv (k .before .if1 .taken) (k .kind-at .result) _ (c .before .closes .ensures))
+    (inv .lent, scan-next inv (k .before .if1 .taken) (k .kind-at .result) _ (c .last-port .ensures))
 
 loop-less : tie.Need-loop-less Inv-loop μ-loop
 loop-less c =
-    let e = c .before .before .before in
+    let e = c .before .before in
     let r = e .before .before in
     let t = r .before .before in
     scan-past (t .before .before .before .loop .inv) (t .if1 .taken) _ (r .before .kind-at .ensures) _ (r .ready-at .ensures) (e .enum-told .given .1)
-    _ _ (c .before .before .closes .ensures) (c .link-of2 .ensures) .1
+    _ _ (c .before .last-port .ensures) (c .link-of2 .ensures) .1
 
 loop-again : tie.Need-loop-again Inv-loop μ-loop
 loop-again c =
-    let e = c .before .before .before in
+    let e = c .before .before in
     let r = e .before .before in
     let t = r .before .before in
     scan-past (t .before .before .before .loop .inv) (t .if1 .taken) _ (r .before .kind-at .ensures) _ (r .ready-at .ensures) (e .enum-told .given .1)
-    _ _ (c .before .before .closes .ensures) (c .link-of2 .ensures) .0
+    _ _ (c .before .last-port .ensures) (c .link-of2 .ensures) .0
 
 returns-2 : tie.Need-returns-2 Inv-loop μ-loop
 returns-2 c =
@@ -99,8 +94,7 @@ scan-spec =
     enum-known-spot
     returns
     enum-told
-    closes-requires
-    add-t17
+    last-port-requires
     link-of-requires-2
     loop-less
     loop-again

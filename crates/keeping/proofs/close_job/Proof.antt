@@ -38,13 +38,13 @@ use Rattle.filing.specs.declared.RollAnswer.{RollAnswer}
 use Rattle.filing.specs.declared.Tally.{Tally}
 use Rattle.filing.proofs.RollAnswer as R
 use Rattle.filing.proofs.Tally as T
-use Rattle.keeping.specs.Keeping.{EnteredAs}
+use Rattle.keeping.specs.Keeping.{Counted, EnteredAs}
 use Rattle.keeping.specs.declared.Entered.{Entered}
 use Rattle.keeping.proofs.done_entry as done-entry
 use Rattle.keeping.proofs.done_entry.Symbol as done-entry-def
 use Rattle.keeping.proofs.done_entry.Symbol.{name as #keeping·done-entry}
 use Rattle.keeping.proofs.done_entry.Met as done-entry-thm
-use Rattle.keeping.proofs.Counting.{CountCall, Counted, adds, counting, entering, goes-count, to-count}
+use Rattle.keeping.proofs.Counting.{CountCall, adds, counting, entering, goes-count, to-count}
 use Rattle.keeping.proofs.count.Symbol as count-def
 use Rattle.keeping.proofs.count.Symbol.{name as #keeping·count}
 use Rattle.keeping.proofs.count.Met as count-thm

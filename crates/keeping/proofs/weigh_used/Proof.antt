@@ -1,12 +1,12 @@
 -- `weigh_used`: the bytes in use are weighed.
 use borrow.Author.Needs.{needs}
-use Rattle.adding.specs.Adding.{fault-of, new-of}
+use Rattle.filing.specs.Answers.{parts-of}
 use Rattle.keeping.proofs.InUse.{use-too-long, use-weighed}
 use Rattle.keeping.proofs.weigh_used.Statement.{statement}
 use Rattle.keeping.proofs.weigh_used.Tie as tie
 
 returns : tie.Need-returns
-returns c = let a = c .before .before .before .before .args in use-too-long _ _ (fault-of (a .kind) (a .job .now) (a .text .now)) (new-of (a .kind) (a .job .now)) (c .if1 .taken)
+returns c = let a = c .before .before .before .before .args in use-too-long _ _ (parts-of (a .kind) (a .job .now) (a .text .now)) (c .if1 .taken)
 
 least-requires : tie.Need-least-requires
 least-requires c κs = search needs
@@ -27,7 +27,7 @@ returns-2 : tie.Need-returns-2
 returns-2 c =
     let l = c .before .before in
     let a = l .before .before .before .before .before .args in
-    use-weighed (a .buffer .now) (a .used) (fault-of (a .kind) (a .job .now) (a .text .now)) (new-of (a .kind) (a .job .now)) (l .before .if1 .left) (l .least .ensures) (c .weigh-roll .result) (c .weigh-roll .ensures)
+    use-weighed (a .buffer .now) (a .used) (parts-of (a .kind) (a .job .now) (a .text .now)) (l .before .if1 .left) (l .least .ensures) (c .weigh-roll .result) (c .weigh-roll .ensures)
 
 pub weigh-used-spec : {M : Type 1} → statement M
 weigh-used-spec =

@@ -1,13 +1,13 @@
 -- `build_plan`: the loop's invariant is `Onward`. The measure is what is left of the text.
 use Prim.Native.Nat.{ℕ, _-_}
-use mathlib.Core.Path.{_≡_, _∙_, subst}
+use mathlib.Core.Path.{_∙_}
 use mathlib.Core.List.{List}
 use borrow.Author.Needs.{needs}
 use lib.ListN.{length}
-use Rattle.items.specs.Walk.{Walked}
-use Rattle.items.specs.declared.NextPiece.{NextPiece}
+use Rattle.items.specs.Walk.{Passed}
+use Rattle.items.proofs.Walking.{passed-here, passed-less, walked-over, walked-piece}
 use Rattle.memory.proofs.Whole.{aside-on}
-use Rattle.loader.proofs.BuildLoop.{Onward, onward-aside, onward-end, onward-less, onward-on, onward-start, piece-ready, ready}
+use Rattle.loader.proofs.BuildLoop.{Onward, onward-aside, onward-end, onward-on, onward-start, piece-ready, ready}
 use Rattle.loader.proofs.build_plan.Statement.{statement}
 use Rattle.loader.proofs.build_plan.Tie as tie
 
@@ -20,14 +20,13 @@ abbrev μ-loop : tie.MeasureT-loop
 abbrev text : tie.At-loop Inv-loop μ-loop → List ℕ
 text l = l .before .before .before .before .before .before .before .args .text .now
 
--- what the walk answered, by what the match found it to be
-walked : (n : tie.After-next Inv-loop μ-loop) {r : NextPiece} → n .next .result ≡ r → Walked (text (n .before)) (n .before .loop .cursor .at) r (n .before .loop .inv .ahead .come)
-walked n e =
-    let l = n .before in
-    subst (λ r. Walked (text l) (l .loop .cursor .at) r (l .loop .inv .ahead .come)) e (n .next .ensures _ (l .loop .inv .ahead .shows))
+-- the piece that the walk gave
+abbrev turn : tie.After-piece Inv-loop μ-loop → tie.At-loop Inv-loop μ-loop
+turn p = p .before .before .before
 
-abbrev next : tie.After-piece Inv-loop μ-loop → tie.After-next Inv-loop μ-loop
-next p = p .before .before
+here : (p : tie.After-piece Inv-loop μ-loop)
+    → Passed (text (turn p)) (turn p .loop .cursor .at) (p .piece .given .0 .0) (p .piece .given .0 .1 .0 .0) (p .piece .given .0 .1 .1 .0 .at) (turn p .loop .inv .ahead .come)
+here p = passed-here (turn p .loop .inv .ahead) (walked-piece (text (turn p)) (p .before .before .next .ensures) (p .piece .given .1))
 
 fresh-requires : tie.Need-fresh-requires Inv-loop μ-loop
 fresh-requires c κs = search needs
@@ -54,7 +53,7 @@ returns c =
     let o = n .before .loop .inv in
     let r = n .before .before .before .before in
     let outer = o .same ∙ r .fresh .ensures .0 .outer in (
-      λ p h. onward-end o (f .finish .ensures) (walked n (f .before .before .enum-told .given .1)) p (rw outer h),
+      λ p h. onward-end o (f .finish .ensures) (walked-over (text (n .before)) (n .next .ensures) (f .before .before .enum-told .given .1) _ (o .ahead .shows)) p (rw outer h),
       (
         f .finish .ensures .outer ∙ outer,
         aside-on (r .fresh .ensures .1) (onward-aside o (f .finish .ensures) (r .fresh .ensures .0 .outer)),
@@ -67,17 +66,17 @@ enum-known-piece c = search needs
 put-piece-requires : tie.Need-put-piece-requires Inv-loop μ-loop
 put-piece-requires c κs =
     let p = c .before .before in
-    piece-ready (next p .before .loop .inv) _ _ _ (walked (next p) (p .piece .given .1))
+    piece-ready (turn p .loop .inv) _ _ _ (here p)
 
 loop-less : tie.Need-loop-less Inv-loop μ-loop
 loop-less c =
     let p = c .before .before .before .before .before in
-    onward-less (next p .before .loop .inv) _ _ _ (walked (next p) (p .piece .given .1))
+    passed-less (here p)
 
 loop-again : tie.Need-loop-again Inv-loop μ-loop
 loop-again c =
     let p = c .before .before .before .before .before in
-    onward-on (next p .before .loop .inv) _ _ _ (walked (next p) (p .piece .given .1)) (c .before .before .put-piece .ensures)
+    onward-on (turn p .loop .inv) _ _ _ (here p) (c .before .before .put-piece .ensures)
 
 pub build-plan-spec : {M : Type 1} → statement M
 build-plan-spec =

@@ -20,7 +20,7 @@ enum-known-word c = search needs
 recall-requires : tie.Need-recall-requires
 recall-requires c κs = let s = c .before .before .before .before .before .before .before .before in
     let (x, is) = s .pre .1 in
-    omega (arith, s .pre .0 .long, hand-word (s .args .list .now) (s .args .starts .now) (s .args .text .now) (s .args .below) is (c .before .before .before .find-piece .ensures x is) (c .before .word .given .1) .0)
+    omega (arith, s .pre .0 .long, hand-word (s .args .list .now) (s .args .spans .now) (s .args .text .now) (s .args .below) is (c .before .before .before .find-piece .ensures x is) (c .before .word .given .1) .0)
 
 enum-told-2 : tie.Need-enum-told-2
 enum-told-2 c = search needs

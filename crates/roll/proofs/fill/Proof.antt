@@ -47,7 +47,7 @@ loop-again : tie.Need-loop-again Inv-loop μ-loop
 loop-again c =
     let e = c .before in
     let t = e .before in
-    filled-on-to (t .before .loop .inv) (t .loop-test .taken) _ _ _ (e .entry-at .ensures) (c .next-of .ensures) refl
+    filled-on-to (t .before .loop .inv) (t .loop-test .taken) _ _ (e .entry-at .ensures) (c .next-of .ensures) _ refl
 
 same-length : tie.Need-same-length Inv-loop μ-loop
 same-length c = filled-long (c .before .loop .inv)

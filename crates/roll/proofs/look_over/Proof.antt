@@ -1,7 +1,7 @@
 -- `look_over`: the roll's length, its first byte, and then its entries.
-use mathlib.Core.Path.{sym, _∙_}
+use mathlib.Core.Path.{_∙_}
 use borrow.Author.Needs.{needs}
-use Rattle.roll.proofs.Judging.{look-breaks, look-empty, look-first, look-long, look-reads}
+use Rattle.roll.proofs.Judging.{look-empty, look-entries, look-first, look-long}
 use Rattle.roll.proofs.look_over.Statement.{statement}
 use Rattle.roll.proofs.look_over.Tie as tie
 
@@ -20,34 +20,9 @@ returns-3 c = look-first _ (c .before .before .before .if1 .left) (c .before .be
 judge-requires : tie.Need-judge-requires
 judge-requires c κs = search needs
 
-enum-known-entries : tie.Need-enum-known-entries
-enum-known-entries c = search needs
-
-enum-known-at : tie.Need-enum-known-at
-enum-known-at c = search needs
-
 returns-4 : tie.Need-returns-4
-returns-4 c =
-    let j = c .before .before .before in
-    let t = j .before in
-    look-reads _ (t .before .before .before .if1 .left) (t .before .before .if2 .left) (t .if3 .left) (sym (j .judge .ensures) ∙ c .before .entries .given .1)
-
-returns-5 : tie.Need-returns-5
-returns-5 c =
-    let j = c .before .before .before in
-    let t = j .before in
-    look-breaks _ (t .before .before .before .if1 .left) (t .before .before .if2 .left) (t .if3 .left) (sym (j .judge .ensures) ∙ c .before .at .given .1)
+returns-4 c = let t = c .before in c .judge .ensures ∙ look-entries _ (t .before .before .before .if1 .left) (t .before .before .if2 .left) (t .if3 .left)
 
 pub look-over-spec : {M : Type 1} → statement M
 look-over-spec =
-    tie.close
-    (tie.spec
-    returns
-    returns-2
-    shared-slice-read-if3
-    returns-3
-    judge-requires
-    enum-known-entries
-    enum-known-at
-    returns-4
-    returns-5)
+    tie.close (tie.spec returns returns-2 shared-slice-read-if3 returns-3 judge-requires returns-4)

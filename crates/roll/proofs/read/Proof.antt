@@ -10,25 +10,25 @@ look-over-requires c κs = search needs
 enum-known-refusal : tie.Need-enum-known-refusal
 enum-known-refusal c = search needs
 
-enum-known-entries : tie.Need-enum-known-entries
-enum-known-entries c = search needs
+enum-known-sums : tie.Need-enum-known-sums
+enum-known-sums c = search needs
 
 cast-if1 : tie.Need-cast-if1
 cast-if1 c = search needs
 
 returns : tie.Need-returns
 returns c =
-    let e = c .before .before in
-    lists-short _ _ (looked-reads _ (e .before .before .look-over .ensures) (e .entries .given .1)) (c .if1 .taken)
+    let e = c .before .before .before in
+    lists-short _ _ (looked-reads _ (e .before .before .look-over .ensures) (e .sums .given .1)) (c .if1 .taken)
 
 cast-fill : tie.Need-cast-fill
 cast-fill c = search needs
 
 fill-requires : tie.Need-fill-requires
 fill-requires c κs =
-    let f = c .before .before in
-    let e = f .before .before in
-    lists-fillable _ _ (looked-reads _ (e .before .before .look-over .ensures) (e .entries .given .1)) (f .if1 .left) (c .before .if2 .taken)
+    let f = c .before .before .before .before in
+    let e = f .before .before .before in
+    lists-fillable _ _ (looked-reads _ (e .before .before .look-over .ensures) (e .sums .given .1)) (f .if1 .left) (c .before .before .if2 .taken)
 
 returns-2 : tie.Need-returns-2
 returns-2 c = lists-refused _ _ (looked-refused _ (c .before .before .before .look-over .ensures) (c .before .refusal .given .1))
@@ -39,15 +39,15 @@ same-length c = search needs
 returns-3 : tie.Need-returns-3
 returns-3 c =
     let d = c .before .before in
-    let f = d .before .before .before in
-    let e = f .before .before in
-    lists-filled _ _ (looked-reads _ (e .before .before .look-over .ensures) (e .entries .given .1)) (f .if1 .left) (d .before .before .if2 .taken) (d .fill .ensures)
+    let f = d .before .before .before .before .before in
+    let e = f .before .before .before in
+    lists-filled _ _ (looked-reads _ (e .before .before .look-over .ensures) (e .sums .given .1)) (f .if1 .left) (d .before .before .before .if2 .taken) (d .fill .ensures)
 
 returns-4 : tie.Need-returns-4
 returns-4 c =
-    let f = c .before in
-    let e = f .before .before in
-    lists-empty _ _ (looked-reads _ (e .before .before .look-over .ensures) (e .entries .given .1)) (f .if1 .left) (c .if2 .left)
+    let f = c .before .before in
+    let e = f .before .before .before in
+    lists-empty _ _ (looked-reads _ (e .before .before .look-over .ensures) (e .sums .given .1)) (f .if1 .left) (c .if2 .left)
 
 pub read-spec : {M : Type 1} → statement M
 read-spec =
@@ -55,7 +55,7 @@ read-spec =
     (tie.spec
     look-over-requires
     enum-known-refusal
-    enum-known-entries
+    enum-known-sums
     cast-if1
     returns
     cast-fill

@@ -1,6 +1,6 @@
 -- `find_piece`: only a token names a word.
 use borrow.Author.Needs.{needs}
-use Rattle.plan.proofs.Tests.{never}
+use Rattle.kinds.proofs.Tests.{never}
 use Rattle.shelf.proofs.Seeking.{none-named, token-names, token-stands}
 use Rattle.shelf.proofs.find_piece.Statement.{statement}
 use Rattle.shelf.proofs.find_piece.Tie as tie

@@ -17,10 +17,10 @@ enum-known-cells : tie.Need-enum-known-cells
 enum-known-cells c = search needs
 
 returns : tie.Need-returns
-returns c = λ list starts known e. absurd (false≢true e)
+returns c = λ list spans known e. absurd (false≢true e)
 
 returns-2 : tie.Need-returns-2
-returns-2 c = λ list starts known e. nothing-printed _ (known _ _ _ (sym (c .before .before .before .recall .ensures) ∙ c .before .cells .given .1)) (eqb-true _ _ e)
+returns-2 c = λ list spans known e. nothing-printed _ (known _ _ _ (sym (c .before .before .before .recall .ensures) ∙ c .before .cells .given .1)) (eqb-true _ _ e)
 
 pub is-nothing-spec : {M : Type 1} → statement M
 is-nothing-spec = tie.close (tie.spec recall-requires enum-told enum-known-cells returns returns-2)

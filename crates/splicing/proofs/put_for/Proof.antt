@@ -18,7 +18,7 @@ enum-known-word c = search needs
 put-for-word-requires : tie.Need-put-for-word-requires
 put-for-word-requires c κs = let s = c .before .before .before .before .before .before .before .before .before in
     let (x, is) = s .pre .3 in
-    let below = puts-below (s .args .list .now) (s .args .starts .now) (s .args .below) [] 0 x (c .before .before .before .find-piece .ensures x is) (c .before .word .given .1) in
+    let below = puts-below (s .args .list .now) (s .args .spans .now) (s .args .below) [] 0 x (c .before .before .before .find-piece .ensures x is) (c .before .word .given .1) in
     (omega (arith, below, s .pre .1), omega (arith, below, s .pre .2))
 
 returns : tie.Need-returns

@@ -9,7 +9,7 @@ is-nothing-requires : tie.Need-is-nothing-requires
 is-nothing-requires c κs = search needs
 
 returns : tie.Need-returns
-returns c = λ list starts out put known placed. (omega arith, sym (c .before .is-nothing .ensures list starts known (c .if1 .taken)))
+returns c = λ list spans out put known placed. (omega arith, sym (c .before .is-nothing .ensures list spans known (c .if1 .taken)))
 
 recall-requires : tie.Need-recall-requires
 recall-requires c κs = search needs
@@ -27,10 +27,10 @@ cast-t10 : tie.Need-cast-t10
 cast-t10 c = search needs
 
 returns-2 : tie.Need-returns-2
-returns-2 c = λ list starts out put known placed. refl
+returns-2 c = λ list spans out put known placed. refl
 
 returns-3 : tie.Need-returns-3
-returns-3 c = λ list starts out put known placed. placed _ _ _ (sym (c .before .before .before .recall .ensures) ∙ c .before .from .given .1)
+returns-3 c = λ list spans out put known placed. placed _ _ _ (sym (c .before .before .before .recall .ensures) ∙ c .before .from .given .1)
 
 pub put-for-word-spec : {M : Type 1} → statement M
 put-for-word-spec =

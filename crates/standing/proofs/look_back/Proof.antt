@@ -1,7 +1,7 @@
 -- `look_back`: the loop's invariant is `LookedBack`. The measure is how far the place is.
 use Prim.Native.Nat.{_-_}
 use borrow.Author.Needs.{needs}
-use Rattle.standing.proofs.LookedBack.{LookedBack, looked-end, looked-first, looked-less, looked-on, looked-there, looked-within}
+use Rattle.standing.proofs.LookedBack.{LookedBack, looked-end, looked-first, looked-less, looked-on, looked-there, looked-within, unfiled-at-0}
 use Rattle.standing.proofs.look_back.Statement.{statement}
 use Rattle.standing.proofs.look_back.Tie as tie
 
@@ -11,8 +11,11 @@ Inv-loop roll upto job at₀ found₀ at found = LookedBack roll job upto at fou
 abbrev μ-loop : tie.MeasureT-loop
 μ-loop roll upto job at₀ found₀ at found = upto - at
 
+returns : tie.Need-returns Inv-loop μ-loop
+returns c = (tt, unfiled-at-0 _ _ (c .if1 .taken))
+
 loop-holds : tie.Need-loop-holds Inv-loop μ-loop
-loop-holds c = looked-first _ (c .before .before .pre)
+loop-holds c = looked-first _ (c .before .before .before .pre) (c .if1 .left)
 
 entry-at-requires : tie.Need-entry-at-requires Inv-loop μ-loop
 entry-at-requires c κs = search needs
@@ -35,12 +38,14 @@ loop-again : tie.Need-loop-again Inv-loop μ-loop
 loop-again c =
     let e = c .before .before in
     let t = e .before in
-    looked-on (t .before .loop .inv) (t .loop-test .taken) _ _ _ (e .entry-at .ensures) (c .next-of .ensures) (c .before .newest .ensures .0)
-    (c .before .newest .ensures .1)
+    looked-on (t .before .loop .inv) (t .loop-test .taken) _ _ (e .entry-at .ensures) (c .next-of .ensures) _ (c .before .newest .ensures .0) (c .before .newest .ensures .1)
 
-returns : tie.Need-returns Inv-loop μ-loop
-returns c = (c .before .loop .inv .within, looked-end (c .before .loop .inv) (c .loop-test .left))
+returns-2 : tie.Need-returns-2 Inv-loop μ-loop
+returns-2 c =
+    let l = c .before in
+    (l .loop .inv .within, looked-end (l .loop .inv) (l .before .if1 .left) (c .loop-test .left))
 
 pub look-back-spec : {M : Type 1} → statement M
 look-back-spec =
-    tie.close (tie.spec Inv-loop μ-loop loop-holds entry-at-requires newest-requires next-of-requires loop-less loop-again returns)
+    tie.close
+    (tie.spec Inv-loop μ-loop returns loop-holds entry-at-requires newest-requires next-of-requires loop-less loop-again returns-2)

@@ -1,9 +1,11 @@
 -- `store_entry`: the numbers in the order of `five-of-entry`.
-use mathlib.Core.Path.{ap, sym}
 use borrow.Author.Needs.{needs}
-use Rattle.turnip.specs.Rolls.{five-of-entry}
+use Rattle.turnip.proofs.Told.{entry-stored}
 use Rattle.turnip.proofs.store_entry.Statement.{statement}
 use Rattle.turnip.proofs.store_entry.Tie as tie
+
+number-requires : tie.Need-number-requires
+number-requires c κs = search needs
 
 enum-told : tie.Need-enum-told
 enum-told c = search needs
@@ -15,14 +17,15 @@ enum-known-given : tie.Need-enum-known-given
 enum-known-given c = search needs
 
 returns : tie.Need-returns
-returns c = search needs
+returns c = entry-stored (c .before .before .before .number .ensures) (c .before .enum-told .given .1)
 
 returns-2 : tie.Need-returns-2
-returns-2 c = search needs
+returns-2 c = entry-stored (c .before .before .before .number .ensures) (c .before .enum-told2 .given .1)
 
 returns-3 : tie.Need-returns-3
-returns-3 c = sym (ap five-of-entry (c .before .before .given .given .1))
+returns-3 c = entry-stored (c .before .before .before .before .number .ensures) (c .before .before .given .given .1)
 
 pub store-entry-spec : {M : Type 1} → statement M
 store-entry-spec =
-    tie.close (tie.spec enum-told enum-told-2 enum-known-given returns returns-2 returns-3)
+    tie.close
+    (tie.spec number-requires enum-told enum-told-2 enum-known-given returns returns-2 returns-3)

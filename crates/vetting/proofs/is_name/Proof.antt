@@ -8,9 +8,6 @@ use Rattle.vetting.proofs.is_name.Tie as tie
 returns : tie.Need-returns
 returns c = name-empty (c .before .before .args .name .now) (c .if1 .taken)
 
-sub-if2 : tie.Need-sub-if2
-sub-if2 c = search needs
-
 returns-2 : tie.Need-returns-2
 returns-2 c = name-long (c .before .before .before .args .name .now) (c .if2 .taken)
 
@@ -23,4 +20,4 @@ returns-3 c =
     name-told (c .before .before .before .before .args .name .now) (short .before .if1 .left) (λ h. omega (arith, short .if2 .left)) (c .are-permitted .ensures)
 
 pub is-name-spec : {M : Type 1} → statement M
-is-name-spec = tie.close (tie.spec returns sub-if2 returns-2 are-permitted-requires returns-3)
+is-name-spec = tie.close (tie.spec returns returns-2 are-permitted-requires returns-3)

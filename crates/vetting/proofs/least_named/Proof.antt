@@ -1,19 +1,20 @@
 -- `least_named`: the loop's invariant is `LeastSoFar`. The measure is what is left of the text.
 use Prim.Native.Nat.{_-_, ℕ}
-use mathlib.Core.Path.{subst}
 use mathlib.Core.List.{List}
 use borrow.Author.Needs.{needs}
 use lib.ListN.{length}
-use Rattle.items.specs.Walk.{Passed, Walked}
-use Rattle.vetting.proofs.Lowering.{LeastSoFar, least-first, least-last, least-less, least-on, least-stands}
+use Rattle.items.specs.Walk.{Passed}
+use Rattle.items.proofs.Walking.{passed-here, passed-less, walked-over, walked-piece}
+use Rattle.shelf.proofs.Standing.{passed-stands}
+use Rattle.vetting.proofs.Lowering.{LeastSoFar, least-first, least-last, least-on}
 use Rattle.vetting.proofs.least_named.Statement.{statement}
 use Rattle.vetting.proofs.least_named.Tie as tie
 
 abbrev Inv-loop : tie.InvT-loop
-Inv-loop list starts text rank bound least₀ cursor₀ least cursor = LeastSoFar list starts text rank bound least (cursor .at)
+Inv-loop list spans text rank bound least₀ cursor₀ least cursor = LeastSoFar list spans text rank bound least (cursor .at)
 
 abbrev μ-loop : tie.MeasureT-loop
-μ-loop list starts text rank bound least₀ cursor₀ least cursor = length text - cursor .at
+μ-loop list spans text rank bound least₀ cursor₀ least cursor = length text - cursor .at
 
 loop-holds : tie.Need-loop-holds Inv-loop μ-loop
 loop-holds c = least-first _ _ _ (c .before .before .before .pre .0) (c .before .before .before .pre .1)
@@ -30,8 +31,7 @@ enum-told c = search needs
 returns : tie.Need-returns Inv-loop μ-loop
 returns c = let n = c .before .before in
     let l = n .before in
-    let ahead = l .loop .inv .ahead in
-    least-last _ _ (l .loop .inv) (subst (λ r. Walked (text l) (l .loop .cursor .at) r (ahead .come)) (c .enum-told .given .1) (n .next .ensures _ (ahead .shows)))
+    least-last _ _ (l .loop .inv) (walked-over (text l) (n .next .ensures) (c .enum-told .given .1) _ (l .loop .inv .ahead .shows))
 
 enum-known-piece : tie.Need-enum-known-piece Inv-loop μ-loop
 enum-known-piece c = search needs
@@ -46,18 +46,17 @@ passed : (p : tie.After-piece Inv-loop μ-loop)
     Passed (text l) (l .loop .cursor .at) (f .0) (f .1 .0 .0) (f .1 .1 .0 .at) (l .loop .inv .ahead .come))
 passed p =
     let l = turn p in
-    let ahead = l .loop .inv .ahead in
-    subst (λ r. Walked (text l) (l .loop .cursor .at) r (ahead .come)) (p .piece .given .1) (p .before .before .next .ensures _ (ahead .shows))
+    passed-here (l .loop .inv .ahead) (walked-piece (text l) (p .before .before .next .ensures) (p .piece .given .1))
 
 find-piece-requires : tie.Need-find-piece-requires Inv-loop μ-loop
 find-piece-requires c κs = let p = c .before in
-    (turn p .loop .inv .shelved, least-stands _ _ (turn p .loop .inv) (passed p))
+    (turn p .loop .inv .shelved, passed-stands (passed p))
 
 lower-requires : tie.Need-lower-requires Inv-loop μ-loop
 lower-requires c κs = search needs
 
 loop-less : tie.Need-loop-less Inv-loop μ-loop
-loop-less c = let p = c .before .before .before in least-less _ _ (turn p .loop .inv) (passed p)
+loop-less c = passed-less (passed (c .before .before .before))
 
 loop-again : tie.Need-loop-again Inv-loop μ-loop
 loop-again c = let p = c .before .before .before in

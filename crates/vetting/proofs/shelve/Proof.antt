@@ -1,21 +1,22 @@
 -- `shelve`: the loop's invariant is `ShelvedSoFar`. The measure is how many words are to come.
 use Prim.Native.Nat.{_-_}
-use mathlib.Core.Path.{_≡_, refl, subst, _∙_}
+use mathlib.Core.Path.{_≡_, refl, ap, subst, _∙_}
 use native.Mathlib.Omega.{arith}
 use borrow.Author.Needs.{needs}
-use lib.ListN.{length, length-set}
+use lib.ListN.{length}
 use Rattle.shelf.specs.Shelf.{words-to}
-use Rattle.vetting.specs.Vetting.{EndTells}
-use Rattle.vetting.specs.declared.WordEnd.{WordEnd}
-use Rattle.vetting.proofs.Shelving.{ShelvedSoFar, shelve-first, shelve-last, shelve-on, shelve-stop}
+use Rattle.shelf.proofs.Keeping.{kept-long}
+use Rattle.vetting.specs.Vetting.{ThereTells}
+use Rattle.vetting.specs.declared.WordThere.{WordThere}
+use Rattle.vetting.proofs.Shelving.{ShelvedSoFar, shelve-first, shelve-keep, shelve-last, shelve-on, shelve-room, shelve-stop}
 use Rattle.vetting.proofs.shelve.Statement.{statement}
 use Rattle.vetting.proofs.shelve.Tie as tie
 
 abbrev Inv-loop : tie.InvT-loop
-Inv-loop list starts₀ count at₀ rank₀ starts at rank = ShelvedSoFar list starts count rank at × (length starts ≡ length starts₀)
+Inv-loop list spans₀ count at₀ rank₀ spans at rank = ShelvedSoFar list spans count rank at × (length spans ≡ length spans₀)
 
 abbrev μ-loop : tie.MeasureT-loop
-μ-loop list starts₀ count at₀ rank₀ starts at rank = count - rank
+μ-loop list spans₀ count at₀ rank₀ spans at rank = count - rank
 
 loop-holds : tie.Need-loop-holds Inv-loop μ-loop
 loop-holds c = let p = c .before .before .pre in (shelve-first (p .0) (p .1) (p .2), refl)
@@ -30,11 +31,11 @@ same-length : tie.Need-same-length Inv-loop μ-loop
 same-length c = c .before .before .before .before .before .loop .inv .1
 
 -- what was said of the next word
-said : (k : tie.After-judge-word Inv-loop μ-loop) {r : WordEnd} → k .judge-word .result ≡ r
+said : (k : tie.After-judge-word Inv-loop μ-loop) {r : WordThere} → k .judge-word .result ≡ r
     → (let l = k .before .before .before in
     let list = l .before .before .before .args .list .now in
-    EndTells list (words-to list (l .loop .starts) (l .loop .rank)) (l .loop .at) r)
-said k e = subst (EndTells _ _ _) e (k .judge-word .ensures)
+    ThereTells list (words-to list (l .loop .spans) (l .loop .rank)) (l .loop .at) r)
+said k e = subst (ThereTells _ _ _) e (k .judge-word .ensures)
 
 returns : tie.Need-returns Inv-loop μ-loop
 returns c = let l = c .before .before .before .before .before in
@@ -42,35 +43,30 @@ returns c = let l = c .before .before .before .before .before in
     let found = shelve-stop inv (c .before .before .before .before .loop-test .taken) (said (c .before .before) (c .enum-told .given .1)) in
     (found, ((inv .shelved, omega (arith, inv .low, inv .few)), inv .own))
 
-enum-known-end : tie.Need-enum-known-end Inv-loop μ-loop
-enum-known-end c = search needs
+enum-known-name : tie.Need-enum-known-name Inv-loop μ-loop
+enum-known-name c = search needs
 
-cast-starts : tie.Need-cast-starts Inv-loop μ-loop
-cast-starts c =
-    let inv = c .before .before .before .before .before .before .loop .inv .0 in
-    omega (arith, inv .near, inv .low, inv .few)
+keep-requires : tie.Need-keep-requires Inv-loop μ-loop
+keep-requires c κs =
+    let l = c .before .before .before .before .before .before .before in
+    shelve-keep (l .loop .inv .0) (c .before .before .before .before .before .before .loop-test .taken) (said (c .before .before .before .before) (c .before .before .name .given .1))
 
-cast-starts-2 : tie.Need-cast-starts-2 Inv-loop μ-loop
-cast-starts-2 c = search needs
-
-mul-starts : tie.Need-mul-starts Inv-loop μ-loop
-mul-starts c = search needs
-
-slice-write-starts : tie.Need-slice-write-starts Inv-loop μ-loop
-slice-write-starts c =
-    let inv = c .before .before .before .before .before .before .loop .inv .0 in
-    omega (arith, c .before .before .before .before .before .loop-test .taken, inv .few, inv .room)
+add-at : tie.Need-add-at Inv-loop μ-loop
+add-at c = let stand = said (c .before .before .before .before .before .before .before .before) (c .before .before .before .before .before .before .name .given .1) .stand in search needs
 
 add-rank : tie.Need-add-rank Inv-loop μ-loop
 add-rank c = search needs
 
 loop-less : tie.Need-loop-less Inv-loop μ-loop
-loop-less c = omega (arith, c .before .before .before .before .before .loop-test .taken)
+loop-less c = omega (arith, c .before .before .before .before .before .before .before .before .before .before .loop-test .taken)
 
 loop-again : tie.Need-loop-again Inv-loop μ-loop
-loop-again c = let l = c .before .before .before .before .before .before in
-    let next = shelve-on (l .loop .inv .0) (c .before .before .before .before .before .loop-test .taken) (said (c .before .before .before) (c .before .end .given .1)) in
-    (next, length-set (l .loop .starts) (l .loop .rank) (l .loop .at) ∙ l .loop .inv .1)
+loop-again c =
+    let l = c .before .before .before .before .before .before .before .before .before .before .before in
+    let test = c .before .before .before .before .before .before .before .before .before .before .loop-test .taken in
+    let there = said (c .before .before .before .before .before .before .before .before) (c .before .before .before .before .before .before .name .given .1) in
+    let e = c .before .before .before .keep .ensures in
+    (shelve-on (l .loop .inv .0) test there e, ap length e ∙ kept-long _ _ _ _ (shelve-room (l .loop .inv .0) test there) ∙ l .loop .inv .1)
 
 same-length-2 : tie.Need-same-length-2 Inv-loop μ-loop
 same-length-2 c = c .before .loop .inv .1
@@ -90,11 +86,9 @@ shelve-spec =
     enum-told
     same-length
     returns
-    enum-known-end
-    cast-starts
-    cast-starts-2
-    mul-starts
-    slice-write-starts
+    enum-known-name
+    keep-requires
+    add-at
     add-rank
     loop-less
     loop-again

@@ -1,12 +1,12 @@
 -- `put_tidied`: the loop's invariant is `Tidying`. The measure is what is left of the text.
 use Prim.Native.Nat.{ℕ, _-_}
-use mathlib.Core.Path.{subst}
 use mathlib.Core.List.{List}
 use native.Mathlib.Omega.{arith}
 use borrow.Author.Needs.{needs}
 use lib.ListN.{length}
-use Rattle.items.specs.Walk.{Passed, Walked}
-use Rattle.items.proofs.Tidying.{Tidying, tidy-first, tidy-in-text, tidy-last, tidy-less, tidy-long, tidy-on, tidy-room}
+use Rattle.items.specs.Walk.{Passed}
+use Rattle.items.proofs.Tidying.{Tidying, tidy-first, tidy-in-text, tidy-last, tidy-long, tidy-on, tidy-room}
+use Rattle.items.proofs.Walking.{passed-here, passed-less, walked-over, walked-piece}
 use Rattle.items.proofs.tidy.put_tidied.Statement.{statement}
 use Rattle.items.proofs.tidy.put_tidied.Tie as tie
 
@@ -35,7 +35,7 @@ returns : tie.Need-returns Inv-loop μ-loop
 returns c =
     let n = c .before .before in
     let inv = n .before .loop .inv in
-    tidy-last inv (subst (λ r. Walked (text (n .before)) (n .before .loop .cursor .at) r (inv .ahead .come)) (c .enum-told .given .1) (n .next .ensures _ (inv .ahead .shows)))
+    tidy-last inv (walked-over (text (n .before)) (n .next .ensures) (c .enum-told .given .1) _ (inv .ahead .shows))
 
 enum-known-piece : tie.Need-enum-known-piece Inv-loop μ-loop
 enum-known-piece c = search needs
@@ -47,7 +47,7 @@ turn c = c .before .before .before
 here : (c : tie.After-piece Inv-loop μ-loop)
     → Passed (text (turn c)) (turn c .loop .cursor .at) (c .piece .given .0 .0) (c .piece .given .0 .1 .0 .0) (c .piece .given .0 .1 .1 .0 .at) (turn c .loop .inv .ahead .come)
 here c =
-    subst (λ r. Walked (text (turn c)) (turn c .loop .cursor .at) r (turn c .loop .inv .ahead .come)) (c .piece .given .1) (c .before .before .next .ensures _ (turn c .loop .inv .ahead .shows))
+    passed-here (turn c .loop .inv .ahead) (walked-piece (text (turn c)) (c .before .before .next .ensures) (c .piece .given .1))
 
 put-piece-requires : tie.Need-put-piece-requires Inv-loop μ-loop
 put-piece-requires c κs =
@@ -68,7 +68,7 @@ add-put c =
 loop-less : tie.Need-loop-less Inv-loop μ-loop
 loop-less c =
     let p = c .before .before .before .before .before .before in
-    tidy-less (turn p .loop .inv) _ _ _ (here p)
+    passed-less (here p)
 
 loop-again : tie.Need-loop-again Inv-loop μ-loop
 loop-again c =
