@@ -4,7 +4,7 @@ use mathlib.Core.Path.{_≡_}
 use mathlib.Core.Bool.{Bool}
 use mathlib.Core.List.{List, [], _∷_}
 use lib.ListN.{getD, set}
-use Rattle.filing.specs.Answers.{Added, entry-number, grown, roll-numbers}
+use Rattle.filing.specs.Answers.{Added, close-job, edition-1, entry-number, file, grown, roll-numbers}
 use Rattle.filing.specs.declared.EntryAnswer.{EntryAnswer}
 use Rattle.filing.specs.declared.EntryAnswer.the-variants.{Found, NoEntry, TooLong}
 use Rattle.filing.specs.declared.RollNumbers.{RollNumbers}
@@ -30,3 +30,10 @@ pub record AddsStored (a : Added) (tally buffer′ tally′ stored : List ℕ) :
   pub told : stored ≡ five-of-roll (roll-numbers (a .answer))
   pub bytes : buffer′ ≡ a .buffer
   pub counts : tally′ ≡ tally-grown tally (a .more-filed) (a .more-done)
+
+-- the same of a FILED and of a DONE
+abbrev pub FilesStored : (roll : List ℕ) → (used : ℕ) → (job text tally roll′ tally′ stored : List ℕ) → Type 0
+FilesStored roll used job text tally roll′ tally′ stored = AddsStored (file edition-1 roll used job text) tally roll′ tally′ stored
+
+abbrev pub ClosesStored : (roll : List ℕ) → (used : ℕ) → (job tally roll′ tally′ stored : List ℕ) → Type 0
+ClosesStored roll used job tally roll′ tally′ stored = AddsStored (close-job edition-1 roll used job) tally roll′ tally′ stored

@@ -4,6 +4,8 @@ use Prim.Native.Nat.{ℕ}
 use mathlib.Core.Path.{_≡_}
 use mathlib.Core.List.{List, [], _∷_}
 use Rattle.numbers.specs.declared.Numbers.{Numbers}
+use Rattle.answers.specs.Run.{run-numbers}
+use Rattle.run.specs.Calls.{Runs}
 
 -- the order in which the array has them
 abbrev pub five : Numbers → List ℕ
@@ -13,3 +15,7 @@ pub record Answers {A : Type 0} (numbers : A → List ℕ) (Did : A → Type 0) 
   pub answer : A
   pub did : Did answer
   pub told : stored ≡ numbers answer
+
+-- RUN over the C interface, with every number and byte that was lent
+abbrev pub RunsStored : (text : List ℕ) → (quota : ℕ) → (memory out memory′ out′ stored : List ℕ) → Type 0
+RunsStored text quota memory out memory′ out′ stored = Answers (λ r. five (run-numbers r)) (λ r. Runs text quota memory out r memory′ out′) stored

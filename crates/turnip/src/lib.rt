@@ -1,16 +1,14 @@
 // The services for programs in C and other languages: include/turnip.h declares and explains these functions. Each asks nothing
 // of its caller and tells the service's answer by five numbers; its contract is the service's (specs/Stored.antt, specs/Rolls.antt).
 ghost use mathlib.Core.Path.{_≡_};
-ghost use Rattle.answers.specs.Run.{run-numbers};
 ghost use Rattle.numbers.specs.Numbers.{read-numbers};
 ghost use Rattle.read.specs.Calls.{ReadsOut};
-ghost use Rattle.run.specs.Calls.{Runs};
-ghost use Rattle.filing.specs.Answers.{close-job, edition-1, file, one-entry, roll-numbers};
+ghost use Rattle.filing.specs.Answers.{one-entry, roll-numbers};
 ghost use Rattle.roll.specs.Calls.{Lists};
 ghost use Rattle.words.specs.Answers.{link-numbers};
 ghost use Rattle.linking.specs.Calls.{Links};
-ghost use Rattle.turnip.specs.Rolls.{AddsStored, five-of-entry, five-of-roll, tally-grown};
-ghost use Rattle.turnip.specs.Stored.{Answers, five};
+ghost use Rattle.turnip.specs.Rolls.{ClosesStored, FilesStored, five-of-entry, five-of-roll, tally-grown};
+ghost use Rattle.turnip.specs.Stored.{Answers, RunsStored, five};
 use answers::of_run;
 use filing::EntryAnswer;
 use filing::RollAnswer;
@@ -44,7 +42,7 @@ pub extern "C" fn turnip_run(
     out: &mut [u8],
     answer: &mut [u32; 5],
 )
-    ensures { λ _. ⌜ Answers (λ r. five (run-numbers r)) (λ r. Runs (now (text .entry)) quota (now (memory .entry)) (now (out .entry)) r (now (memory .exit)) (now (out .exit))) (now (answer .exit)) ⌝ }
+    ensures { λ _. ⌜ RunsStored (now (text .entry)) quota (now (memory .entry)) (now (out .entry)) (now (memory .exit)) (now (out .exit)) (now (answer .exit)) ⌝ }
 {
     store(of_run(run::run(text, quota, memory, out)), answer);
 }
@@ -113,7 +111,7 @@ pub extern "C" fn turnip_roll_file(
     tally: &mut [u32; 2],
     answer: &mut [u32; 5],
 )
-    ensures { λ _. ⌜ AddsStored (file edition-1 (now (roll .entry)) used (now (job .entry)) (now (text .entry))) (now (tally .entry)) (now (roll .exit)) (now (tally .exit)) (now (answer .exit)) ⌝ }
+    ensures { λ _. ⌜ FilesStored (now (roll .entry)) used (now (job .entry)) (now (text .entry)) (now (tally .entry)) (now (roll .exit)) (now (tally .exit)) (now (answer .exit)) ⌝ }
 {
     let entered = file_entry(roll, used, job, text);
     store_entered(entered, tally, answer);
@@ -127,7 +125,7 @@ pub extern "C" fn turnip_roll_done(
     tally: &mut [u32; 2],
     answer: &mut [u32; 5],
 )
-    ensures { λ _. ⌜ AddsStored (close-job edition-1 (now (roll .entry)) used (now (job .entry))) (now (tally .entry)) (now (roll .exit)) (now (tally .exit)) (now (answer .exit)) ⌝ }
+    ensures { λ _. ⌜ ClosesStored (now (roll .entry)) used (now (job .entry)) (now (tally .entry)) (now (roll .exit)) (now (tally .exit)) (now (answer .exit)) ⌝ }
 {
     let entered = done_entry(roll, used, job);
     store_entered(entered, tally, answer);

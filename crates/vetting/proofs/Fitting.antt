@@ -1,7 +1,7 @@
 -- Words that fit by themselves: how the code judges one, what one that fits has, and how a row of them is read.
 use Prim.Native.Nat.{ℕ, zero, suc, _-_, _≤_}
 use mathlib.Core.Path.{_≡_, refl, ap, ap₂, sym, subst, _∙_}
-use mathlib.Core.Bool.{Bool, true, false, cond, not, _&&_}
+use mathlib.Core.Bool.{Bool, true, false, cond, not, _&&_, and-false}
 use mathlib.Core.List.{List, _∷_}
 use native.Mathlib.Omega.{arith}
 use borrow.Author.Tests.{eqb-false, eqb-true, not-true}
@@ -13,7 +13,7 @@ use Rattle.plan.specs.Pieces.{Shows, pieces}
 use Rattle.plan.specs.Read.{acceptable}
 use Rattle.plan.specs.Token.{allowed}
 use Rattle.plan.proofs.Acceptable.{acceptable-plan}
-use Rattle.kinds.proofs.Tests.{and-false, and-true}
+use Rattle.kinds.proofs.Tests.{and-true}
 use Rattle.plan.proofs.Tokens.{allowed-parts}
 use Rattle.stored.specs.Counted.{AtFront, CUT, FRONT}
 use Rattle.stored.specs.Places.{runs-at}

@@ -1,7 +1,7 @@
 -- A word's name, character by character: with `%` before it, it is an allowed token when it is short enough and each character is permitted.
 use Prim.Native.Nat.{ℕ, zero, suc, _+_, _-_, _≤_, _<_}
 use mathlib.Core.Path.{_≡_, refl, ap, sym, _∙_}
-use mathlib.Core.Bool.{Bool, true, false, _&&_}
+use mathlib.Core.Bool.{Bool, true, false, _&&_, and-false}
 use mathlib.Core.List.{List, [], _∷_}
 use native.Mathlib.Omega.{arith}
 use borrow.Author.Tests.{le-leb, lt-leb}
@@ -11,7 +11,6 @@ use lib.Seq.{drop-drop, drop-length}
 use Rattle.kinds.specs.Limits.{standard, tokenLimit}
 use Rattle.plan.specs.declared.Character.the-variants.{Malformed, Whole}
 use Rattle.plan.specs.Token.{all-permitted, allowed, character, may-hold, permits}
-use Rattle.kinds.proofs.Tests.{and-false}
 use Rattle.plan.proofs.Utf8.{character-width}
 use Rattle.words.specs.Linking.{percent}
 use Rattle.words.specs.Stock.{is-name, nameLimit}

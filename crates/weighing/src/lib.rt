@@ -44,7 +44,7 @@ fn weigh_filed(roll: &[u8], upto: usize, job: &[u8], text: &[u8]) -> Weighed
     }
 }
 
-// A DONE of a job number: how the job stands. The text of a FILED of the roll was accepted already, so that only its end is asked.
+// A DONE of a job number: how the job stands. The text of a FILED of the roll was accepted already: only whether it is finished is asked.
 fn weigh_done(roll: &[u8], upto: usize, job: &[u8]) -> Weighed
     requires { ⌜ StandsBefore (now roll) upto ⌝ }
     ensures { λ r. ⌜ Behind (now (roll .entry)) upto (λ past. r ≡ weighed-done past (now (job .entry))) ⌝ }
