@@ -1,8 +1,8 @@
 /* The C interface of the plan reader: READ and RUN over lent bytes and numbers, linking by stock words, and the roll of filed
    jobs.
    `rt staticlib turnip` writes target/staticlib/libturnip.a, which defines these functions for x86-64 Linux. Each of them is
-   proved to do, for every input, what the definitions in crates/plan/specs, crates/words/specs and crates/filing/specs say;
-   crates/turnip/src/lib.rt has the contracts. */
+   proved to do, for every input, what the definitions in crates/plan/specs, crates/answers/specs, crates/roll_rules/specs and
+   crates/words_meaning/specs say; crates/turnip/src/lib.rt has the contracts. */
 #ifndef TURNIP_H
 #define TURNIP_H
 

@@ -222,7 +222,7 @@ static void library_run(const struct numbered_case *made, const uint8_t *bytes, 
 }
 
 /* "A token whose text starts with `&` ... means nothing": what READ writes of an accepted text holds none, and RUN answers to
-   it as it did to the text, but for OVERFULL's place, which is one in what is given. */
+   it as it did to the text, except for OVERFULL's place, which is one in what is given. */
 static void run_tidied(struct numbered_case made, const uint32_t of_text[5])
 {
     uint32_t ours[5];

@@ -339,7 +339,7 @@ static void put_bad_character(struct maker *maker)
         put_string(maker, bad[below(maker->draws, sizeof bad / sizeof *bad)]);
 }
 
-/* A { that opens no allowed token, but for the last kind, which is at random. */
+/* A { that opens no allowed token, except the last kind, which is at random. */
 static void put_bad_token(struct maker *maker)
 {
     size_t before = below(maker->draws, 8), behind = below(maker->draws, 8);

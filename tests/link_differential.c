@@ -5,7 +5,7 @@
    A case is one word list and one text. Library and twin link them into outputs that were filled alike, and are compared:
    the five numbers, every byte of the outputs, and a few behind. Three things more are asked of the library alone: what it
    linked is linked again, which must change nothing; the text is linked by the list of no words, which must give what READ
-   gives, but for OVERFULL's place; and the text as READ writes it is linked, which must give what the text gives. The first few
+   gives, except OVERFULL's place; and the text as READ writes it is linked, which must give what the text gives. The first few
    differences are told in full. Then come the longest lists on a small stack (link_small_stack.h). Status 0: there were no
    differences, and of 10,000 cases or more each answer has come up, and annotations in texts and in words that were linked. */
 #include <inttypes.h>

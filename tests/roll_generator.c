@@ -24,8 +24,8 @@ struct piece {
 
 /* ---- Texts. ---- */
 
-/* What the rules make of a text. The first two are printed texts of accepted plans; the next two would be, but for blanks, and
-   but for annotations. */
+/* What the rules make of a text. The first two are printed texts of accepted plans. The third would be one without its blanks,
+   the fourth without its annotations. */
 enum text_kind { FINISHED, UNFINISHED, BLANKED, ANNOTATED, FAULTY };
 
 enum { READ = 3, RUN_DONE = 0, RANDOM_TEXT_AT_MOST = 600, TRIES = 6 };

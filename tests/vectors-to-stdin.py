@@ -9,7 +9,7 @@ Each has a case a line, each kind with fields of its own, and RULES telling whic
     tidy RULES TEXT OUTLEN = NUMBER STEPS CELLS LENGTH PLACE OUT
     run RULES TEXT QUOTA MEMLEN OUTLEN = NUMBER STEPS CELLS LENGTH PLACE OUT
 
-base.txt supposes none (`-`): its answers with 14 are changed to what they are since request 1 (name_faults.py). faults.txt
+base.txt supposes none (`-`): its answers with 14 are changed to what they are since request 1 (token_faults.py). faults.txt
 supposes that one (`s`), and annotations.txt request 2 too (`sa`), so it is taken as it stands. Of the older two, lines whose answer
 supposes that an annotation is an item are left out (annotations.py): 78 of base.txt (8 check, 7 tidy, 63 run), none of
 faults.txt; annotations.txt has 804 lines for such texts. Lines of other kinds are left out.
@@ -32,7 +32,7 @@ import sys
 
 from annotations import supposes_item
 from base_form import expand, runs
-from name_faults import renumbered
+from token_faults import renumbered
 
 KINDS = {"check": 1, "tidy": 1, "run": 2}
 READ = "3"

@@ -25,7 +25,7 @@ use Rattle.rules.specs.Running.{Ran, RAN, run-plan}
 use Rattle.rules.proofs.Runs.{run-relabel}
 use Rattle.answers.specs.declared.RunRefusal.{RunRefusal}
 use Rattle.answers.specs.declared.RunRefusal.the-variants.{BadArena, NotRead}
-use Rattle.answers.specs.Run.{HowRan, Refuses, as-run, bad-arena, bad-text, run-read, runs, too-long}
+use Rattle.answers.specs.Run.{HowRan, Refuses, as-run, bad-arena, text-refused, run-read, run-outcome, text-too-long}
 
 refuses-injective : {r s : RunRefusal} → _≡_ {A = Outcome RunRefusal HowRan} (REFUSES r) (REFUSES s) → r ≡ s
 refuses-injective e = cc
@@ -34,12 +34,12 @@ pub gives-is-no-refusal : {A : Type 0} {r : RunRefusal} {how : HowRan} {c : ℕ}
 gives-is-no-refusal e = never cc
 
 module _ (lim : Limits) (n quota : ℕ) (text : List ℕ) where
-  pub runs-short : length text ≤ lim .text → n ≤ lim .cells → runs lim n quota text ≡ run-read n quota (read (lim .token) n text)
-  unfolding runs
+  pub runs-short : length text ≤ lim .text → n ≤ lim .cells → run-outcome lim n quota text ≡ run-read n quota (read (lim .token) n text)
+  unfolding run-outcome
   runs-short short lent = rw (le-ltb (lim .text) (length text) short, le-ltb (lim .cells) n lent)
 
   -- a text that is accepted is run
-  pub runs-accepted : {p : Plan ℕ} → n ≤ lim .cells → accept lim n text ≡ ACCEPTED p → runs lim n quota text ≡ as-run (run-plan n quota p)
+  pub runs-accepted : {p : Plan ℕ} → n ≤ lim .cells → accept lim n text ≡ ACCEPTED p → run-outcome lim n quota text ≡ as-run (run-plan n quota p)
   unfolding run-read
   runs-accepted lent h = let ok = accepted-text lim n text h in runs-short (ok .short) lent ∙ ap (run-read n quota) (ok .reads)
 
@@ -48,28 +48,28 @@ module _ (lim : Limits) (n quota : ℕ) (text : List ℕ) where
     refuses : {r : RunRefusal} → Refuses lim n text r → RunsCase (REFUSES r)
     accepts : {p : Plan ℕ} → n ≤ lim .cells → accept lim n text ≡ ACCEPTED p → RunsCase (as-run (run-plan n quota p))
 
-  pub runs-case : RunsCase (runs lim n quota text)
-  unfolding runs run-read
+  pub runs-case : RunsCase (run-outcome lim n quota text)
+  unfolding run-outcome run-read
   runs-case = go (ltb (lim .text) (length text)) refl (ltb (lim .cells) n) refl
     where
       by-reading : length text ≤ lim .text → n ≤ lim .cells → (x : Acceptance) → read (lim .token) n text ≡ x → RunsCase (run-read n quota x)
-      by-reading short lent (UNREAD u) h = refuses (bad-text short lent (refused-row (lim .token) n text h))
+      by-reading short lent (UNREAD u) h = refuses (text-refused short lent (refused-row (lim .token) n text h))
       by-reading short lent (ACCEPTED p) h = accepts lent (accept-short lim text n short ∙ h)
 
       go : (s : Bool) → ltb (lim .text) (length text) ≡ s → (t : Bool) → ltb (lim .cells) n ≡ t
           → RunsCase (cond s (REFUSES (NotRead (Text TooLong))) (cond t (REFUSES BadArena) (run-read n quota (read (lim .token) n text))))
-      go true u t v = refuses (too-long (ltb-true _ _ u))
+      go true u t v = refuses (text-too-long (ltb-true _ _ u))
       go false u true v = refuses (bad-arena (ltb-false _ _ u) (ltb-true _ _ v))
       go false u false v = by-reading (ltb-false _ _ u) (ltb-false _ _ v) (read (lim .token) n text) refl
 
-  pub refuses-refused : {r : RunRefusal} → Refuses lim n text r → runs lim n quota text ≡ REFUSES r
-  unfolding runs run-read
-  refuses-refused (too-long h) = rw (lt-ltb (lim .text) (length text) h)
+  pub refuses-refused : {r : RunRefusal} → Refuses lim n text r → run-outcome lim n quota text ≡ REFUSES r
+  unfolding run-outcome run-read
+  refuses-refused (text-too-long h) = rw (lt-ltb (lim .text) (length text) h)
   refuses-refused (bad-arena h g) = rw (le-ltb (lim .text) (length text) h, lt-ltb (lim .cells) n g)
-  refuses-refused (bad-text h g row) = runs-short h g ∙ ap (run-read n quota) (row-refused row)
+  refuses-refused (text-refused h g row) = runs-short h g ∙ ap (run-read n quota) (row-refused row)
 
   -- a call is refused with 11 to 17 or 21 to 25 exactly when the row says, and no other row then does
-  pub refuses-iff : (r : RunRefusal) → (runs lim n quota text ≡ REFUSES r) ↔ Refuses lim n text r
+  pub refuses-iff : (r : RunRefusal) → (run-outcome lim n quota text ≡ REFUSES r) ↔ Refuses lim n text r
   unfolding as-run
   refuses-iff r = (λ e. go runs-case e, refuses-refused)
     where
@@ -97,7 +97,7 @@ run-saved n quota p = as-run-bare n quota (placed 0 p) ∙ ap (λ q. as-run (run
 
 -- a text that is accepted runs without its marks as it did
 pub runs-without-marks : (lim : Limits) → Roomy lim → (n quota : ℕ) → n ≤ lim .cells → (text : List ℕ) {p : Plan ℕ} → accept lim n text ≡ ACCEPTED p
-    → runs lim n quota (without-marks OUTSIDE text) ≡ runs lim n quota text
+    → run-outcome lim n quota (without-marks OUTSIDE text) ≡ run-outcome lim n quota text
 runs-without-marks lim roomy n quota lent text {p} h =
     runs-accepted lim n quota (without-marks OUTSIDE text) lent (accept-without-marks lim roomy n lent text h) ∙ run-saved n quota p
     ∙ sym (runs-accepted lim n quota text lent h)

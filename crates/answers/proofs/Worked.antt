@@ -6,21 +6,21 @@ use Rattle.kinds.specs.Limits.{tokenLimit}
 use Rattle.plan.specs.declared.TokenFault.the-variants.{Empty, Long, BadUtf8, Forbidden, InnerBrace}
 use Rattle.plan.specs.TokenFaults.{FirstFault}
 use Rattle.plan.specs.Reading.{OUTSIDE, enter, leave, without-marks}
-use Rattle.answers.specs.Run.{as-run, run-read, runs}
-use Rattle.answers.specs.Worked.{answered, expected, sheet, worked}
+use Rattle.answers.specs.Run.{as-run, run-read, run-outcome}
+use Rattle.answers.specs.Worked.{run-told, run-expected, sheet, worked}
 use Rattle.numbers.specs.Rows.{bytes}
 use Rattle.answers.specs.WorkedTokens.{worked-tokens}
 use Rattle.plan.proofs.TokenFaults.{first-met}
 use Rattle.plan.proofs.Worked.{read-answer, reading}
 use Rattle.rules.proofs.Worked.{running}
 
-unfoldable pub worked-plans : map answered worked ≡ map expected worked
-unfolding running read-answer runs run-read as-run answered expected sheet worked bytes
+unfoldable pub worked-plans : map run-told worked ≡ map run-expected worked
+unfolding running read-answer run-outcome run-read as-run run-told run-expected sheet worked bytes
 worked-plans = refl
 
-pub worked-names : map answered worked-tokens ≡ map expected worked-tokens
+pub worked-token-faults : map run-told worked-tokens ≡ map run-expected worked-tokens
 unfolding worked-plans worked-tokens
-worked-names = refl
+worked-token-faults = refl
 
 -- Of a text SP, LF and annotations outside tokens are taken out, and nothing else.
 pub worked-marks : without-marks OUTSIDE (bytes "{&} [{x y}{&jit}\n]{y&}{&a b}{%&}") ≡ bytes "[{x y}]{y&}{%&}"
@@ -32,6 +32,6 @@ pub each-fault-stands :
     FirstFault tokenLimit (bytes "}") 0 Empty × FirstFault tokenLimit (bytes "x") 1 Long × FirstFault tokenLimit (replicate 63 0x78) 62 Long
     × FirstFault tokenLimit (0x78 ∷ 0xC3 ∷ 0x7D ∷ []) 1 BadUtf8 × FirstFault tokenLimit (0x78 ∷ 0xC2 ∷ 0x9F ∷ 0x7D ∷ []) 1 Forbidden
     × FirstFault tokenLimit (bytes "x{}") 1 InnerBrace
-unfolding worked-names
+unfolding worked-token-faults
 each-fault-stands =
     (first-met _ _ refl, first-met _ _ refl, first-met _ _ refl, first-met _ _ refl, first-met _ _ refl, first-met _ _ refl)

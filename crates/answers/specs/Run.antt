@@ -52,18 +52,18 @@ unfoldable pub run-read : (n quota : ℕ) → Acceptance → Outcome RunRefusal 
 run-read n quota (UNREAD u) = REFUSES (NotRead u)
 run-read n quota (ACCEPTED p) = as-run (run-plan n quota p)
 
--- RUN before its output is looked at, where n cells are lent: 11, 12, then 13 to 17 with 21 to 25 for 14
-unfoldable pub runs : Limits → (n quota : ℕ) → List ℕ → Outcome RunRefusal HowRan
-runs lim n quota text =
+-- RUN before its output is looked at, where n cells are lent. The order is 11, 12, then 13 to 17, with 21 to 25 in place of 14
+unfoldable pub run-outcome : Limits → (n quota : ℕ) → List ℕ → Outcome RunRefusal HowRan
+run-outcome lim n quota text =
     cond (ltb (lim .text) (length text)) (REFUSES (NotRead (Text TooLong)))
     (cond (ltb (lim .cells) n) (REFUSES BadArena) (run-read n quota (read (lim .token) n text)))
 
 -- the rows 11 and 12 of the table stand before those of the text's bytes
 pub data Refuses (lim : Limits) (n : ℕ) (text : List ℕ) : RunRefusal → Type 0 where
-  too-long : lim .text < length text → Refuses lim n text (NotRead (Text TooLong))
+  text-too-long : lim .text < length text → Refuses lim n text (NotRead (Text TooLong))
   bad-arena : length text ≤ lim .text → lim .cells < n → Refuses lim n text BadArena
-  bad-text : {u : Unread} → length text ≤ lim .text → n ≤ lim .cells → Row (lim .token) n text u → Refuses lim n text (NotRead u)
+  text-refused : {u : Unread} → length text ≤ lim .text → n ≤ lim .cells → Row (lim .token) n text u → Refuses lim n text (NotRead u)
 
--- of the work memory only its length counts: a quarter of it, rounded down, in cells
+-- Only the length of the work memory counts. A quarter of it, rounded down, is the number of cells.
 abbrev pub quarter : (memory-length : ℕ) → ℕ
 quarter memory-length = memory-length / cellNumbers

@@ -1,11 +1,11 @@
--- A run cut into slots, each with a quota of its own: the first reads the run's text and each other the text that the
--- last one saved. Demand 3 compares it with the whole run.
+-- A run cut into slots, each with a quota of its own. The first slot reads the run's text. Every other slot reads the text that the slot
+-- before it saved. Demand 3 compares the slots with the whole run.
 use Prim.Native.Nat.{ℕ, _+_}
 use mathlib.Core.List.{List, [], _∷_}
 use Rattle.kinds.specs.Limits.{Limits}
 use Rattle.plan.specs.Outcomes.{Outcome, REFUSES, GIVES}
 use Rattle.answers.specs.declared.RunRefusal.{RunRefusal}
-use Rattle.answers.specs.Run.{HowRan, runs}
+use Rattle.answers.specs.Run.{HowRan, run-outcome}
 
 unfoldable pub total : ℕ → List ℕ → ℕ
 total quota [] = quota
@@ -21,5 +21,5 @@ next-slot (REFUSES r) rest = REFUSES r
 next-slot (GIVES how cells saved) rest = after (how .steps) (rest saved)
 
 unfoldable pub slots : Limits → (n quota : ℕ) → List ℕ → (text : List ℕ) → Outcome RunRefusal HowRan
-slots lim n quota [] text = runs lim n quota text
-slots lim n quota (q ∷ quotas) text = next-slot (runs lim n quota text) (λ saved. slots lim n q quotas saved)
+slots lim n quota [] text = run-outcome lim n quota text
+slots lim n quota (q ∷ quotas) text = next-slot (run-outcome lim n quota text) (λ saved. slots lim n q quotas saved)

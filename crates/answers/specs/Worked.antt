@@ -1,6 +1,6 @@
--- The plans of document 01, "Plans to try", P1 to P12, and rows more that tell the feared slips apart where those do not:
--- FULL at quota 0, P11 at quota 2, and the places of 16 and 17; then annotations, request 2 of document 02. WorkedTokens.antt has the
--- rows of tokens.
+-- The worked plans. First come P1 to P12 of document 01, "Plans to try". Then come rows that tell apart the feared slips which P1 to P12
+-- do not: FULL at quota 0, P11 at quota 2, and the places of 16 and 17. Then come annotations, request 2 of document 02.
+-- WorkedTokens.antt has the rows of tokens.
 use Prim.Native.Nat.{ℕ, _*_, _-_}
 use Prim.Native.String.{String}
 use mathlib.Core.List.{List, [], _∷_, _++_}
@@ -10,7 +10,7 @@ use Rattle.numbers.specs.declared.Numbers.{Numbers}
 use Rattle.numbers.specs.Rows.{Told, bytes, five}
 use Rattle.plan.specs.Outcomes.{write}
 use Rattle.plan.specs.Plan.{open-bracket, close-bracket}
-use Rattle.answers.specs.Run.{quarter, run-family, run-numbers, runs}
+use Rattle.answers.specs.Run.{quarter, run-family, run-numbers, run-outcome}
 
 pub record WorkedRow : Type 0 where
   pub text : List ℕ
@@ -73,10 +73,10 @@ worked =
 unfoldable pub sheet : List ℕ
 sheet = replicate 70 7
 
-unfoldable pub answered : WorkedRow → Told
-answered r =
-    let w = write run-family (runs standard (quarter (cellNumbers * r .cells)) (r .quota) (r .text)) sheet in
+unfoldable pub run-told : WorkedRow → Told
+run-told r =
+    let w = write run-family (run-outcome standard (quarter (cellNumbers * r .cells)) (r .quota) (r .text)) sheet in
     record { says = run-numbers (w .answer); holds = w .output }
 
-unfoldable pub expected : WorkedRow → Told
-expected r = record { says = r .numbers; holds = r .printed ++ drop (length (r .printed)) sheet }
+unfoldable pub run-expected : WorkedRow → Told
+run-expected r = record { says = r .numbers; holds = r .printed ++ drop (length (r .printed)) sheet }

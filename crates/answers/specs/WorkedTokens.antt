@@ -1,5 +1,6 @@
--- Tokens that are read, and each fault of request 1 at each place where it can stand: at the token's second, 62nd, 63rd and 64th byte, the
--- text's end there too, with characters of one to four bytes; and where two faults meet. Then annotations, which have the same faults.
+-- The worked tokens. Some tokens are read. Each fault of request 1 stands at each place where it can: at the token's second, 62nd,
+-- 63rd and 64th byte. So does the text's end. Characters have one to four bytes. Some rows have two faults that meet. Last come
+-- annotations, which have the same faults.
 use Prim.Native.Nat.{ℕ, _-_}
 use mathlib.Core.List.{List, [], _∷_, _++_}
 use lib.ListN.{length, replicate}
@@ -8,7 +9,7 @@ use Rattle.plan.specs.Token.{ampersand}
 use Rattle.answers.specs.Worked.{WorkedRow}
 use Rattle.numbers.specs.Rows.{bytes, five}
 
--- a text that begins with a token of which these are the bytes from number n on, counted from 1; x stands before them
+-- A text that begins with a token. The token's bytes from number n on, counted from 1, are these. Before these, its text is all x.
 abbrev from-byte : (n : ℕ) → List ℕ → List ℕ
 from-byte n bs = open-brace ∷ (replicate (n - 2) 0x78 ++ bs)
 
@@ -22,22 +23,22 @@ is-read n bs =
 abbrev refused : List ℕ → (number place : ℕ) → WorkedRow
 refused text number place = record { text = text; quota = 0; cells = 1; numbers = five number 0 0 0 place; printed = [] }
 
--- one whose token goes wrong at or behind byte n; the text goes on with the token's `}`
+-- a refused text whose token goes wrong at byte n or behind it; the text goes on with the token's `}`
 abbrev wrong : (n : ℕ) → List ℕ → (number place : ℕ) → WorkedRow
 wrong n bs number place = refused (from-byte n (bs ++ close-brace ∷ [])) number place
 
--- one that ends there
+-- the same, with the text's end in place of the `}`
 abbrev cut : (n : ℕ) → List ℕ → (number place : ℕ) → WorkedRow
 cut n bs number place = refused (from-byte n bs) number place
 
--- What cannot stand in a token, at its second, 62nd and 63rd byte, where it may reach over the 64th; at the 64th the token is too long. A
--- `}` comes behind it, or the text ends.
+-- Bytes that cannot stand in a token, put at its second, 62nd and 63rd byte. From there they may reach over the 64th. Put at the 64th, they
+-- make the token too long. A `}` comes behind them, or the text ends.
 abbrev at-each-byte : List ℕ → (number : ℕ) → List WorkedRow
 at-each-byte bs number =
     wrong 2 bs number 1 ∷ wrong 62 bs number 61 ∷ wrong 63 bs number 62 ∷ wrong 64 bs 22 63 ∷
     cut 2 bs number 1 ∷ cut 62 bs number 61 ∷ cut 63 bs number 62 ∷ cut 64 bs 22 63 ∷ []
 
--- the bytes of a character of two, three or four
+-- a character of two bytes, one of three and one of four
 abbrev two : List ℕ
 two = 0xC3 ∷ 0xA9 ∷ []
 
@@ -93,7 +94,8 @@ forbidden-rows =
 abbrev brace-rows : List WorkedRow
 brace-rows = at-each-byte (open-brace ∷ []) 25
 
--- the first of two by place, a token by its `{` against a byte or a `]` outside tokens, and before 16 and 17
+-- Two faults meet. The first by place is told. Against a byte or a `]` outside tokens, a token counts by the place of its
+-- `{`. A token's fault comes before 16 and 17.
 abbrev meeting-rows : List WorkedRow
 meeting-rows =
     wrong 2 (0x1F ∷ open-brace ∷ []) 24 1 ∷ wrong 2 (open-brace ∷ 0x1F ∷ []) 25 1 ∷ wrong 2 (0x1F ∷ 0x80 ∷ []) 24 1 ∷
@@ -101,7 +103,7 @@ meeting-rows =
     refused (bytes "]{}") 15 0 ∷ refused (bytes "#{}") 13 0 ∷ refused (bytes "{x]") 22 3 ∷ refused (bytes "{x#") 22 3 ∷
     refused (bytes "[{}") 21 2 ∷ refused (bytes "{x}b{}") 21 5 ∷ []
 
--- an annotation of which these are the bytes from number n on, counted from 1; x stands before them, behind the `&`
+-- An annotation. Its bytes from number n on, counted from 1, are these. Before these, its text is all x behind the `&`.
 abbrev annotated : (n : ℕ) → List ℕ → List ℕ
 annotated n bs = open-brace ∷ ampersand ∷ (replicate (n - 3) 0x78 ++ bs)
 

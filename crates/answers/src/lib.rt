@@ -1,4 +1,5 @@
-// What RUN answers. The definitions in specs/ speak of these types, so that a promise is one equation.
+// What RUN answers, and its five numbers; a run cut into slots; the worked plans and tokens. The definitions in specs/ speak of the types
+// here, so that a promise is one equation.
 ghost use mathlib.Core.Path.{_≡_};
 ghost use Rattle.answers.specs.Run.{ending-number, run-numbers, run-refusal-numbers};
 use numbers::Numbers;

@@ -1,4 +1,5 @@
--- The walk of `block_cells`: what is counted and what is still to be counted are together the cells of the block's contents.
+-- The walk of `block_cells` along the links of a block. At each port, the cells counted so far and the cells still to be counted are
+-- together those of the block's contents. So at the block's close all are counted.
 use Prim.Native.Nat.{ℕ, _+_, _*_, _%_, _≤_, _<_}
 use mathlib.Core.Path.{_≡_, ap, _∙_}
 use mathlib.Core.Logic.{_≢_}

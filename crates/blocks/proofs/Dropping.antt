@@ -1,5 +1,6 @@
--- The walk of `free_block`: freeing the cells that are still ahead, in the memory as it is, gives what freeing all of them
--- gave at first. A port that is passed is not ahead, so the store at its link leaves the way on as it is.
+-- The walk of `free_block`. At each port, freeing the cells still ahead, in the memory as it is now, gives the same as
+-- freeing all of them in the first memory. So at the block's close all are freed. A passed port is not ahead any more, so a
+-- store at its link leaves the way on as it is.
 use Prim.Native.Nat.{ℕ, _+_, _*_, _/_, _%_, _≤_, _<_}
 use mathlib.Core.Path.{_≡_, refl, ap, sym, _∙_}
 use mathlib.Core.Logic.{_≢_}

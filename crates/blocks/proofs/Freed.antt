@@ -1,5 +1,5 @@
--- What the freeing of cells leaves as it is: the share of the cells still in use, and the chain and the items of a plan that
--- has none of the cells. `¬ Absent c cs` is what says that c is in cs.
+-- What freeing cells leaves as it is. The other cells in use stay in use. A plan that has none of the freed cells keeps its chain and its
+-- items, so it is held afterwards. `¬ Absent c cs` says that c is in cs.
 use Prim.Native.Nat.{ℕ, _+_, _*_}
 use mathlib.Core.Path.{_≡_, refl, _∙_, subst}
 use mathlib.Core.List.{List, [], _∷_, _++_, append-nil}

@@ -1,5 +1,5 @@
--- The walk of `last_port`: the last of the ports ahead is the last inside the block, and where none is ahead it is the port
--- that the walk stands at.
+-- The walk of `last_port`. The last of the ports ahead is the last port inside the block. Where no port is ahead, that last
+-- port is the one that the walk stands at.
 use Prim.Native.Nat.{ℕ, _≤_, _<_}
 use mathlib.Core.Path.{_≡_, refl, ap, sym, _∙_}
 use mathlib.Core.Logic.{_≢_}

@@ -1,4 +1,4 @@
--- A block of a plan that the memory holds is linked in itself, since its ports are a run of the plan's.
+-- A block of a plan that the memory holds is linked in itself. Its ports come in a row among the plan's ports, and these are linked.
 use Prim.Native.Nat.{ℕ, _+_}
 use mathlib.Core.Path.{_≡_, ap, _∙_, subst}
 use mathlib.Core.List.{List, [], _∷_, _++_, append-assoc}

@@ -1,5 +1,5 @@
--- The cells whose starts are in a list of ports: of the ports of a plan these are the plan's labels. And the ways through a
--- block, from its start and from the port behind it.
+-- The cells whose starts are in a list of ports. For the ports of a plan, they are the plan's labels. Then the ways through a block: one
+-- from its start, and one from the port behind its start.
 use Prim.Native.Nat.{ℕ, _+_, _/_, _%_, _<_, _≤_}
 use mathlib.Core.Path.{_≡_, refl, ap, sym, _∙_}
 use mathlib.Core.Bool.{Bool, true, false, not}

@@ -1,5 +1,5 @@
--- The way along a chain of ports from one port up to a stop, on plain values. No port comes twice, so as many steps as all cells have
--- ports are enough for it.
+-- The way along a chain of ports, from one port up to a stop, on plain values. No port comes twice on it. So it has at most as many ports
+-- as all cells have, and so many steps are enough for it.
 use Prim.Native.Nat.{ℕ, zero, suc, _+_, _*_, _≤_, _<_}
 use mathlib.Core.Path.{_≡_, refl, ap, sym, _∙_, subst}
 use mathlib.Core.Bool.{Bool, true, false}

@@ -1,4 +1,5 @@
--- A block of a plan in the memory, and the cells that it has: what is counted before a copy and freed after a drop.
+-- A block of a plan in the memory, and the cells that it has. They are counted before a copy and freed after a drop. A block that is
+-- counted stands in a plan (`HasBlock`). A block that is freed has left its plan: it is only linked in itself (`Alone`).
 use Prim.Native.Nat.{ℕ, _+_, _*_}
 use mathlib.Core.Path.{_≡_}
 use mathlib.Core.List.{List, [], _∷_, _++_}
@@ -40,7 +41,7 @@ first-free free (c ∷ cs) = first-free c cs
 
 -- the cells of the list are free in the memory
 pub record CellsFreed (n : ℕ) (m : List ℕ) (first free : ℕ) (cs m′ : List ℕ) (top : ℕ) : Type 0 where
-  -- the start of each keeps the cell that was free before it, and no other number changed
+  -- the start of each keeps the cell that was the first free one before it, and no other number changed
   pub numbers : whole n m′ first ≡ freed (whole n m first) free cs
   -- the last of them is the first free one
   pub frees : top ≡ first-free free cs

@@ -1,5 +1,5 @@
-// The walks over one block. Its ports stand in one chain from its start to its own close, so each walk is one loop along the
-// links, and what stands around the block does not matter.
+// The walks over one block: one counts its cells, one frees them, and one finds its last port. The links join the ports of a block in one
+// chain, from its start to its own close. So each walk is one loop along the links, and what stands around the block does not matter.
 ghost use mathlib.Core.Path.{_≡_};
 ghost use Prim.Native.Nat.{ℕ};
 ghost use Rattle.plan.specs.Plan.{Plan, cells};
@@ -13,7 +13,7 @@ use memory::Port;
 use memory::keep_cell;
 use memory::link_of;
 
-// How many cells the contents of a block have. The text itself is not read: it is what the contract tells the plan by.
+// How many cells the contents of a block have. The text itself is not read. It is there for the contract, which tells the plan by it.
 pub fn block_cells(text: &[u8], memory: &[u32], held: Held, block: Cell) -> u32
     requires { ⌜ HasBlock (now text) (now memory) held (block .0) ⌝ }
     ensures { λ r. ⌜ ((t b : Plan ℕ) → HeldIn (now (text .entry)) (now (memory .entry)) held t → BlockIn (block .0) b t → r ≡ cells b) ⌝ }
@@ -32,8 +32,8 @@ pub fn block_cells(text: &[u8], memory: &[u32], held: Held, block: Cell) -> u32
     count
 }
 
-// Frees the cells of a block that no plan links to any more, in the order of their starts, and answers the first free cell
-// then. A free cell's start keeps the next free one, so the way on is read before the cell is freed.
+// Frees the cells of a block that no plan links to any more, in the order of their starts. Answers the first free cell afterwards. The
+// start of a free cell keeps the next free one, so the link to the next port is read before the cell is freed.
 pub fn free_block(memory: &mut [u32], outer: Cell, first: Port, free: Cell, block: Cell) -> Cell
     requires { ⌜ Leaves (outer .0) (now memory) (first .0) (block .0) ⌝ }
     ensures frees { λ r. ⌜ BlockFreed (outer .0) (now (memory .entry)) (first .0) (free .0) (block .0) (now (memory .exit)) (r .0) ⌝ }

@@ -1,12 +1,13 @@
-// The builder: a plan is put into the memory item by item. Each step writes the first free cell and links the tail of the
-// chain on to it, and does on the model of specs/Model.antt exactly what the step of that name there does.
+// The steps that put a plan into the memory: all cells free, a piece put behind the last, a block begun beside the plan, the end. A step
+// that puts an item writes the first free cell and links the tail of the chain on to it. The memory's specs/Model.antt says on plain values
+// what each step does, and the step here does exactly that.
 ghost use mathlib.Core.Path.{_≡_};
 ghost use Prim.Native.Nat.{_*_, _<_};
 ghost use lib.ListN.{set};
 ghost use Rattle.kinds.specs.Limits.{cellNumbers};
 ghost use Rattle.pieces.specs.Numbered.{operator-number};
 ghost use Rattle.memory.specs.Numbered.{kind-number};
-ghost use Rattle.memory.specs.Model.{Lent, Aside, Buildable, Stepped, Fresh, Begun, model, with-cell, with-item, with-token, with-block, with-close, Finished, PieceReady, Apart, with-piece};
+ghost use Rattle.memory.specs.Model.{Lent, Aside, Buildable, Stepped, Fresh, Begun, model, with-cell, with-item, with-token, with-block, with-close, BuildEnded, PieceReady, Apart, with-piece};
 ghost use Rattle.builder.specs.Places.{PlaceStored};
 use kinds::Cell;
 use kinds::Token;
@@ -153,7 +154,7 @@ fn close_block(memory: &mut [u32], b: Build) -> Build
     }
 }
 
-// Begins a block in the first free cell, beside the plan: no port links to it yet, and what is put then is its inside.
+// Begins a block in the first free cell, beside the plan. No port links to it yet. What is put from then on is its inside.
 pub fn begin_apart(memory: &mut [u32], held: Held) -> Build
     requires { ⌜ Lent (held .outer .0) (now memory) × (held .free .0 < held .outer .0) ⌝ }
     ensures { λ r. ⌜ Apart (now (memory .entry)) held (now (memory .exit)) r ⌝ }
@@ -193,9 +194,9 @@ pub fn put_piece(memory: &mut [u32], b: Build, piece: Piece) -> Build
 }
 
 // Ends the plan: the last port links to the end mark.
-pub fn finish(memory: &mut [u32], b: Build) -> Held
+pub fn end_plan(memory: &mut [u32], b: Build) -> Held
     requires { ⌜ Buildable (now memory) b ⌝ }
-    ensures { λ r. ⌜ Finished (now (memory .entry)) b (now (memory .exit)) r ⌝ }
+    ensures { λ r. ⌜ BuildEnded (now (memory .entry)) b (now (memory .exit)) r ⌝ }
 {
     let outer = b.outer;
     let before = b.first;

@@ -1,6 +1,7 @@
-// Runs RUN on the plans that document 01 gives to try, and writes a line for each that a reader can hold to that page.
+// A program that runs the plans that document 01 gives to try, and one nested to the limit, and writes a line for each. A reader can hold
+// each line to that page by eye.
 //
-// A line has the plan's name, its text, the cells and the quota it is run with; then the five numbers of the answer, the
+// A line has the plan's label, its text, the cells and the quota it is run with; then the five numbers of the answer, the
 // printed text, and whether every number of the memory is 0 and every byte of the output past that text as it was.
 ghost use Prim.Native.Nat.{_≤_};
 ghost use lib.ListN.{length};
@@ -12,11 +13,11 @@ use lending::fill_memory;
 use lending::fill_output;
 use lending::untouched;
 use numbers::Numbers;
-use telling::mind;
 use telling::say;
 use telling::say_count;
 use telling::tell_five;
 use telling::tell_printed;
+use telling::warn_unless;
 
 const MEMORY: usize = Cell::NUMBERS * Cell::LIMIT;
 
@@ -30,8 +31,8 @@ fn bar() {
     say(b" | ");
 }
 
-fn tell_given(name: &[u8], text: &[u8], cells: usize, quota: u32) {
-    say(name);
+fn tell_given(label: &[u8], text: &[u8], cells: usize, quota: u32) {
+    say(label);
     bar();
     say(text);
     bar();
@@ -63,15 +64,15 @@ fn run_filled(text: &[u8], quota: u32, memory: &mut [u32], output: &mut [u8]) ->
     of_run(run::run(text, quota, memory, output))
 }
 
-// Runs a text in all of the memory, and tells what came of it; the length of the printed text.
+// Runs a text in all of the memory and tells what came of it. Gives the length of the printed text.
 fn tell_run(text: &[u8], quota: u32, memory: &mut [u32], output: &mut [u8]) -> usize
     ensures { λ r. ⌜ r ≤ length (now (output .exit)) ⌝ }
 {
     let numbers = run_filled(text, quota, memory, output);
     let length = numbers.length as usize;
-    mind(tell_five(numbers));
+    warn_unless(tell_five(numbers));
     bar();
-    mind(tell_printed(numbers, output));
+    warn_unless(tell_printed(numbers, output));
     bar();
     tell_rest(memory, output, length);
     length
@@ -87,7 +88,7 @@ fn tell_lent(text: &[u8], quota: u32, lent: usize, memory: &mut [u32], output: &
 
 // A case: a text with so many cells and a quota.
 fn tell(
-    name: &[u8],
+    label: &[u8],
     text: &[u8],
     cells: usize,
     quota: u32,
@@ -97,11 +98,11 @@ fn tell(
     requires { ⌜ cells ≤ cellLimit ⌝ }
     ensures { λ r. ⌜ r ≤ length (now (output .exit)) ⌝ }
 {
-    tell_given(name, text, cells, quota);
+    tell_given(label, text, cells, quota);
     tell_lent(text, quota, Cell::NUMBERS * cells, memory, output)
 }
 
-// The table to P11: with as many cells as may be and a quota of 100 unless it says otherwise.
+// The table from P1 to P11. Each plan has as many cells as may be and a quota of 100, unless the table says otherwise.
 fn tell_plans(memory: &mut [u32; MEMORY], output: &mut [u8; OUTPUT]) {
     let most = Cell::LIMIT;
     tell(b"P1", b"", 0, 100, memory, output);
@@ -199,7 +200,7 @@ fn tell_bytes(count: usize) {
 fn run_deep(text: &[u8], memory: &mut [u32], output: &mut [u8]) {
     let numbers = run_filled(text, 100, memory, output);
     let length = numbers.length as usize;
-    mind(tell_five(numbers));
+    warn_unless(tell_five(numbers));
     bar();
     tell_bytes(length);
     tell_rest(memory, output, length);

@@ -1,5 +1,5 @@
--- The turns of the loop that copies a block, with the memory and what is kept beside it. The walk is told of every plan that
--- the memory holds and every contents that the block has in it, and one such pair there is.
+-- The turns of the loop that copies a block, with the memory and what is kept beside it. What the walk knows is said of every plan that the
+-- memory holds, and of all contents that the block has in it. There is such a pair.
 use Prim.Native.Nat.{ℕ, _+_, _*_, _≤_, _<_}
 use mathlib.Core.Path.{_≡_, ap, sym, _∙_, subst}
 use mathlib.Core.Logic.{_≢_}

@@ -1,5 +1,5 @@
--- The walk through the contents of a block, on plain values: at each port the copy so far and the pieces that the ports ahead show are
--- together the contents, but for their cells, and all that the plan had is as it was. Each turn puts the like of one port.
+-- The walk through the contents of a block, on plain values. At each port, the copy so far and the pieces that the ports ahead show are
+-- together the contents, except for their cells. All that the plan had is as it was. Each turn puts the like of one port.
 use Prim.Native.Nat.{ℕ, _+_, _*_, _/_, _≤_, _<_}
 use mathlib.Core.Path.{_≡_, refl, sym, _∙_, subst}
 use mathlib.Core.Logic.{_≢_}
@@ -16,7 +16,7 @@ use Rattle.memory.specs.Model.{FindsCell, Model}
 use Rattle.memory.specs.Pieces.{Shown, piece-at}
 use Rattle.memory.proofs.Along.{along}
 use Rattle.memory.proofs.Beside.{Agree, Kept, link-kept, linked-agree, says-agree}
-use Rattle.memory.proofs.Building.{finish-in}
+use Rattle.memory.proofs.Building.{ended-in}
 use Rattle.memory.proofs.Lists.{absent-split, below-absent, below-split, distinct-split, not-before}
 use Rattle.memory.proofs.Pieces.{piece-agree}
 use Rattle.memory.proofs.Placing.{Placed, place, place-end}
@@ -129,7 +129,7 @@ module _ {text : List ℕ} {n : ℕ} {w₀ : List ℕ} {root stop : ℕ} {t b : 
       go [] [] placed r shown =
           let (here, alike, built) = place-end b placed in
           let v = set (s .numbers) (2 * s .tail + 1) (close root) in
-          let whole = finish-in built in
+          let whole = ended-in built in
           let kept : Kept n root (beside t root) w₀ v = λ i a z. link-kept built (s .numbers) (close root) i a z ∙ g .kept i a z in
           let agree : Agree (n ∷ labels t) w₀ v = agrees n root t (labels here) (whole .shared) w₀ v kept in
           record {

@@ -1,5 +1,5 @@
--- What it means to copy a block: its contents, told by the plan that they stand in, are built once more inside a cell that was
--- free and that no port links to yet. And the step of the builder that puts the like of a port.
+-- What it means to copy a block. The plan that the block stands in tells its contents. They are built once more inside another cell, which
+-- was free and which no port links to yet. Then the step of the builder that puts the like of a port.
 use Prim.Native.Nat.{ℕ, _+_, _≤_, _<_}
 use mathlib.Core.Path.{_≡_}
 use mathlib.Core.List.{List, [], _∷_, _++_}
@@ -12,7 +12,7 @@ use Rattle.memory.specs.declared.Build.{Build}
 use Rattle.memory.specs.declared.Held.{Held}
 use Rattle.copier.specs.declared.Copied.{Copied}
 
--- the memory holds the plan t, in it stands a block at the cell c with the contents b, and a copy of it finds room
+-- the memory holds the plan t; a block at the cell c with the contents b stands in t; and there is room for a copy of that block
 pub record Copies (text m : List ℕ) (h : Held) (c : ℕ) (t b : Plan ℕ) : Type 0 where
   pub held : HeldIn text m h t
   pub found : BlockIn c b t
@@ -24,7 +24,7 @@ pub record Copyable (text m : List ℕ) (h : Held) (c : ℕ) : Type 0 where
   pub contents : Plan ℕ
   pub copies : Copies text m h c plan contents
 
--- the plan t as before, and beside it a block at the cell `copy` with contents that are b but for their cells
+-- the plan t as before, and beside it a block at the cell `copy` with contents that are b, except for their cells
 pub record CopyHeld (text : List ℕ) (n : ℕ) (w : List ℕ) (free copy : ℕ) (t b : Plan ℕ) : Type 0 where
   pub contents : Plan ℕ
   pub alike : bare contents ≡ bare b
@@ -39,7 +39,7 @@ abbrev pub CopyMade : (text m : List ℕ) → Copied → (t b : Plan ℕ) → Ty
 CopyMade text m r t b =
     CopyHeld text (r .held .outer .0) (whole (r .held .outer .0) m (r .held .first .0)) (r .held .free .0) (r .copy .0) t b
 
--- the step that puts the like of a port: the piece that it shows
+-- the step that puts the like of a port: the piece that the port shows
 unfoldable pub like : Model → (port : ℕ) → Model
 like s port = with-piece s (piece-at (s .numbers) port)
 

@@ -1,5 +1,5 @@
-// Copies a block of a plan in the memory into free cells, as a block that no port links to yet: the ports of its contents
-// stand in one chain, and for each of them the builder puts its like. No recursion, and nothing is kept beside the copy.
+// Copies a block of a plan in the memory into free cells, beside the plan. No port links to the copy yet. The ports of the block's contents
+// stand in one chain, and for each of them the builder puts its like. There is no recursion, and nothing is kept beside the copy.
 ghost use mathlib.Core.Path.{_≡_};
 ghost use Prim.Native.Nat.{ℕ};
 ghost use Rattle.plan.specs.Plan.{Plan};

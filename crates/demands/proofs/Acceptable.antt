@@ -22,7 +22,7 @@ use Rattle.plan.proofs.Accepting.{unread-iff}
 use Rattle.numbers.specs.Numbers.{given-numbers, outshort-numbers, read-numbers, read-refusal-numbers, unread-numbers}
 use Rattle.numbers.proofs.Told.{read-refusal-number-is, unread-number-is}
 use Rattle.read.specs.Calls.{ReadsOut}
-use Rattle.demands.specs.Words.{Bare, IsRefusal, OUTSHORT, Reads, Unrefused, saved}
+use Rattle.demands.specs.Terms.{Bare, IsRefusal, OUTSHORT, Reads, Unrefused, saved}
 use Rattle.demands.proofs.Answered.{every-read-answered}
 use Rattle.demands.proofs.Cases.{ReadCase, bad-text, is-read, out-short, read-case, read-saved, text-read}
 use Rattle.demands.proofs.Meanings.{reads-not-unreadable, reads-one, reads-printed}

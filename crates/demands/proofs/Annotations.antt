@@ -1,6 +1,6 @@
--- Request 2: a token whose text starts with `&` means nothing, like SP. "Demand 3 stands since saved texts hold no such token": no text that
--- READ or RUN saves holds one. And "taking them out doesn't change the plan": a text that reads gets the same answer without its marks,
--- and its output the same bytes.
+-- Request 2: a token whose text starts with `&` means nothing, like SP. "Demand 3 stands since saved texts hold no such token": no text
+-- that READ or RUN saves holds one. And "taking them out doesn't change the plan": without its marks, a text that reads gets the same
+-- answer, and its output gets the same bytes.
 use Prim.Native.Nat.{ℕ}
 use mathlib.Core.Path.{_≡_, ap, sym, subst, _∙_}
 use mathlib.Core.List.{List}
@@ -13,14 +13,14 @@ use Rattle.plan.specs.Read.{read-family}
 use Rattle.plan.proofs.Outcomes.{wrote-once}
 use Rattle.numbers.specs.Numbers.{read-numbers}
 use Rattle.answers.specs.declared.RunAnswer.{RunAnswer}
-use Rattle.answers.specs.Run.{run-family, run-numbers, runs}
+use Rattle.answers.specs.Run.{run-family, run-numbers, run-outcome}
 use Rattle.plan.proofs.Annotations.{accept-without-marks, reads-without-marks}
 use Rattle.answers.proofs.Runs.{runs-without-marks}
 use Rattle.plan.proofs.ReadBack.{bare-placed}
 use Rattle.plan.proofs.Accepting.{standard-roomy}
 use Rattle.read.specs.Calls.{ReadsOut}
 use Rattle.run.specs.Calls.{Runs}
-use Rattle.demands.specs.Words.{Bare, Reads, Unrefused, lent, saved}
+use Rattle.demands.specs.Terms.{Bare, Reads, Unrefused, lent, saved}
 use Rattle.demands.proofs.Cases.{ended-saved, read-saved, run-ended, text-read}
 use Rattle.demands.proofs.Meanings.{ends-sound, reads-one, reads-sound, sound-unannotated}
 
@@ -45,10 +45,10 @@ without-marks-reads {n} {text} g =
       same = bare-placed 0 (g .placed) ∙ g .same;
     }
 
--- and texts that are the same but for marks read, where both do, as one plan
-pub same-but-for-marks : {n : ℕ} {text text₂ : List ℕ} {p q : Bare} → Reads n text p → Reads n text₂ q
+-- and texts that are the same except for marks read, where both do, as one plan
+pub same-except-marks : {n : ℕ} {text text₂ : List ℕ} {p q : Bare} → Reads n text p → Reads n text₂ q
     → without-marks OUTSIDE text ≡ without-marks OUTSIDE text₂ → p ≡ q
-same-but-for-marks {n} {p = p} g h e = reads-one (subst (λ t. Reads n t p) e (without-marks-reads g)) (without-marks-reads h)
+same-except-marks {n} {p = p} g h e = reads-one (subst (λ t. Reads n t p) e (without-marks-reads g)) (without-marks-reads h)
 
 -- so every service answers and leaves the same
 pub read-without-marks : {text out : List ℕ} {r s : ReadAnswer} {a b : List ℕ} {p : Bare} → ReadsOut text out r a → ReadsOut (without-marks OUTSIDE text) out s b
@@ -61,6 +61,6 @@ pub run-without-marks : {text : List ℕ} {quota : ℕ} {memory memory₂ out : 
     → Runs text quota memory out r memory′ a → Runs (without-marks OUTSIDE text) quota memory₂ out s memory₂′ b → lent memory₂ ≡ lent memory
     → Reads (lent memory) text p → (s ≡ r) × (b ≡ a)
 run-without-marks {text} {quota} {memory} {memory₂} {out} {s = s} {b = b} call bare lent-same g =
-    let same = ap (λ n. runs standard n quota (without-marks OUTSIDE text)) lent-same
+    let same = ap (λ n. run-outcome standard n quota (without-marks OUTSIDE text)) lent-same
     ∙ runs-without-marks standard standard-roomy (lent memory) quota (g .within) text (g .accepted) in
     wrote-once run-family (subst (λ o. Wrote run-family o out s b) same (bare .wrote)) (call .wrote)

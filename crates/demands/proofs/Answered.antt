@@ -14,7 +14,7 @@ use Rattle.plan.specs.declared.ReadRefusal.the-variants.{NotRead, OutShort as P
 use Rattle.plan.specs.declared.Unread.the-variants.{Overfull, Text}
 use Rattle.plan.specs.Outcomes.{cleared}
 use Rattle.plan.specs.Plan.{print}
-use Rattle.plan.specs.Read.{read-family, reads}
+use Rattle.plan.specs.Read.{read-family, read-outcome}
 use Rattle.plan.proofs.Accepting.{one-refusal}
 use Rattle.plan.proofs.Outcomes.{written}
 use Rattle.kinds.proofs.Tests.{never}
@@ -25,24 +25,24 @@ use Rattle.answers.specs.declared.RunAnswer.{RunAnswer}
 use Rattle.answers.specs.declared.RunAnswer.the-variants.{Refused}
 use Rattle.answers.specs.declared.RunRefusal.{RunRefusal}
 use Rattle.answers.specs.declared.RunRefusal.the-variants.{BadArena, NotRead as RunNotRead, OutShort}
-use Rattle.answers.specs.Run.{run-family, run-numbers, run-refusal-numbers, runs}
+use Rattle.answers.specs.Run.{run-family, run-numbers, run-refusal-numbers, run-outcome}
 use Rattle.answers.proofs.Runs.{one-refusal as one-run-refusal}
 use Rattle.read.specs.Calls.{ReadsOut}
 use Rattle.run.specs.Calls.{Runs}
 use Rattle.demands.specs.Table.{ReadRefuses, RunRefuses, row-18, rows-11-to-17}
-use Rattle.demands.specs.Words.{Bare, FULL, IsRefusal, READ, lent}
+use Rattle.demands.specs.Terms.{Bare, FULL, IsRefusal, READ, lent}
 use Rattle.demands.proofs.Cases.{ReadCase, RunCase, bad-text, ended, is-read, out-short, read-case, run-case}
 use Rattle.demands.proofs.Meanings.{ends-same, reads-not-refused, reads-not-unreadable, reads-one}
 use Rattle.demands.proofs.Numbers.{ending-at-most, run-refusal-number-is, same-run-refusal}
 
 -- "Any text, quota, memory and output length gets an answer." The contracts ask nothing of the caller, and this is what meets them;
 pub every-read-answered : (text out : List ℕ) → (r : ReadAnswer) × (out′ : List ℕ) × ReadsOut text out r out′
-every-read-answered text out = let (r, out′, did) = written read-family (reads standard text) out in (r, out′, record { wrote = did })
+every-read-answered text out = let (r, out′, did) = written read-family (read-outcome standard text) out in (r, out′, record { wrote = did })
 
 pub every-run-answered : (text : List ℕ) (quota : ℕ) (memory out : List ℕ)
     → (r : RunAnswer) × (memory′ : List ℕ) × (out′ : List ℕ) × Runs text quota memory out r memory′ out′
 every-run-answered text quota memory out =
-    let (r, out′, did) = written run-family (runs standard (lent memory) quota text) out in
+    let (r, out′, did) = written run-family (run-outcome standard (lent memory) quota text) out in
     (r, cleared memory, out′, record { wrote = did; zeroed = refl })
 
 -- its number is one of the table: READ, or DONE, QUOTA or FULL, or a refusal's.

@@ -14,7 +14,7 @@ use Rattle.plan.specs.declared.ReadRefusal.the-variants.{NotRead, OutShort as P
 use Rattle.plan.specs.declared.Unread.{Unread}
 use Rattle.plan.specs.Outcomes.{GIVES, Outcome, write}
 use Rattle.plan.specs.Plan.{Plan, bare, cells, print}
-use Rattle.plan.specs.Read.{as-read, read-family, reads}
+use Rattle.plan.specs.Read.{as-read, read-family, read-outcome}
 use Rattle.plan.specs.Reading.{ACCEPTED, Acceptance, UNREAD, accept}
 use Rattle.plan.specs.Refusals.{Unreadable}
 use Rattle.plan.proofs.Accepting.{unread-iff}
@@ -29,11 +29,11 @@ use Rattle.answers.specs.declared.RunAnswer.{RunAnswer}
 use Rattle.answers.specs.declared.RunAnswer.the-variants.{Ran, Refused}
 use Rattle.answers.specs.declared.RunRefusal.{RunRefusal}
 use Rattle.answers.specs.declared.RunRefusal.the-variants.{OutShort}
-use Rattle.answers.specs.Run.{HowRan, Refuses, as-run, run-family, run-numbers, runs}
+use Rattle.answers.specs.Run.{HowRan, Refuses, as-run, run-family, run-numbers, run-outcome}
 use Rattle.answers.proofs.Runs.{RunsCase, accepts, refuses, runs-accepted, runs-case}
 use Rattle.read.specs.Calls.{ReadsOut}
 use Rattle.run.specs.Calls.{Runs}
-use Rattle.demands.specs.Words.{Bare, Ends, OUTSHORT, Reads, Rewritten, Unrefused, lent, saved}
+use Rattle.demands.specs.Terms.{Bare, Ends, OUTSHORT, Reads, Rewritten, Unrefused, lent, saved}
 use Rattle.demands.proofs.Meanings.{ends-one, ends-rewritten, ends-same, reads-not-refused, rewritten-one}
 use Rattle.demands.proofs.Numbers.{ending-at-most, run-refusal-number-is}
 
@@ -68,8 +68,8 @@ unfolding as-run
 as-run-bare e steps q = rw (cells-relabel (λ l. tt {0}) q, print-relabel (λ l. tt {0}) q)
 
 read-cases : (text out : List ℕ)
-    → let w = write read-family (reads standard text) out in ReadCase text out (w .answer) (w .output)
-unfolding reads as-read write
+    → let w = write read-family (read-outcome standard text) out in ReadCase text out (w .answer) (w .output)
+unfolding read-outcome as-read write
 read-cases text out = by-reading (accept standard cellLimit text) refl
   where
     by-reading : (x : Acceptance) → accept standard cellLimit text ≡ x
@@ -81,7 +81,7 @@ read-cases text out = by-reading (accept standard cellLimit text) refl
         (write-gives read-family tt _ (print (bare p)) out (ReadCase text out) (out-short reads) (is-read reads))
 
 run-cases : (n quota : ℕ) (text out : List ℕ)
-    → let w = write run-family (runs standard n quota text) out in RunCase n quota text out (w .answer) (w .output)
+    → let w = write run-family (run-outcome standard n quota text) out in RunCase n quota text out (w .answer) (w .output)
 unfolding write as-run
 run-cases n quota text out = by-outcome (runs-case standard n quota text)
   where
@@ -106,7 +106,7 @@ run-case {text} {quota} {memory} {out} call = rw (call .wrote .answer, call .wro
 
 -- what a run gives when it ends so
 ends-gives : {n quota : ℕ} {text : List ℕ} {e : Ending} {steps : ℕ} {q : Bare} → Ends n quota text e steps q
-    → runs standard n quota text ≡ GIVES (record { ending = e; steps = steps }) (cells q) (print q)
+    → run-outcome standard n quota text ≡ GIVES (record { ending = e; steps = steps }) (cells q) (print q)
 unfolding as-run
 ends-gives {n} {quota} {text} {e} {steps} {q} ends =
     runs-accepted standard n quota text (ends .reads .within) (ends .reads .accepted) ∙ by-run (run-plan n quota (ends .reads .placed)) refl
@@ -184,6 +184,6 @@ module _ {n quota : ℕ} {text out : List ℕ} {r : RunAnswer} {out′ : List �
   ended-plan h = rewritten-one ended-rewritten h
 
   -- what it gives
-  pub ended-gives : runs standard n quota text
+  pub ended-gives : run-outcome standard n quota text
       ≡ GIVES (record { ending = x .ending; steps = x .steps }) (cells (x .result)) (saved (run-numbers r) out′)
   ended-gives = rw ended-saved (ends-gives (x .ends))

@@ -1,5 +1,5 @@
--- Demand 2, sentence by sentence. An unrefused run's plan is what the reported steps, rewrites in the fixed order, make of the plan
--- that its text reads as; every statement is about the run's numbers, its texts and that plan.
+-- Demand 2, sentence by sentence. The reported steps are rewrites in the fixed order. An unrefused run's plan is what they make of the plan
+-- that its text reads as. Every statement is about the run's numbers, its texts and that plan.
 use Prim.Native.Nat.{ℕ, _≤_}
 use mathlib.Core.Path.{_≡_, refl, ap, sym, subst, _∙_}
 use mathlib.Core.Logic.{_↔_}
@@ -24,7 +24,7 @@ use Rattle.rules.proofs.Rewrites.{finished-iff}
 use Rattle.rules.proofs.Runs.{Stops, run-quota-steps, run-steps, run-stops}
 use Rattle.read.specs.Calls.{ReadsOut}
 use Rattle.run.specs.Calls.{Runs}
-use Rattle.demands.specs.Words.{Bare, DONE, FULL, NextFits, NextHasMoreThan, NoRuleApplies, QUOTA, Reads, Rewritten, Unrefused, lent, saved}
+use Rattle.demands.specs.Terms.{Bare, DONE, FULL, NextFits, NextHasMoreThan, NoRuleApplies, QUOTA, Reads, Rewritten, Unrefused, lent, saved}
 use Rattle.demands.proofs.Cases.{EndedRun, ReadCase, bad-text, ended-plan, ended-rewritten, ended-saved, is-read, out-short, read-case, read-saved, run-ended, text-read}
 use Rattle.demands.proofs.Meanings.{ends-sound, ends-way, reads-one, reads-sound, sound-back}
 use Rattle.demands.proofs.Numbers.{run-refusal-number-is, same-ending}

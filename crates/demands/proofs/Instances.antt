@@ -30,11 +30,11 @@ use Rattle.answers.proofs.Worked.{worked-plans}
 use Rattle.numbers.specs.Rows.{bytes}
 use Rattle.read.specs.Calls.{ReadsOut}
 use Rattle.run.specs.Calls.{Runs}
-use Rattle.turnip.specs.Stored.{Answers, five}
+use Rattle.turnip.specs.Arrays.{InArray, five-of}
 use Rattle.demands.specs.Demanded.{AsDemanded}
-use Rattle.demands.specs.Slots.{Slot, Slots, first, only}
+use Rattle.demands.specs.Slots.{Slot, Slots, first-slot, only-slot}
 use Rattle.demands.specs.Table.{ReadRefuses, RunRefuses}
-use Rattle.demands.specs.Words.{Bare, DONE, Ends, IsRefusal, NextFits, NextHasMoreThan, NoRuleApplies, OUTSHORT, Reads, Rewritten, Unrefused, saved}
+use Rattle.demands.specs.Terms.{Bare, DONE, Ends, IsRefusal, NextFits, NextHasMoreThan, NoRuleApplies, OUTSHORT, Reads, Rewritten, Unrefused, saved}
 use Rattle.demands.proofs.Answered.{read-refused, run-refused}
 use Rattle.demands.proofs.Cases.{run-ended}
 use Rattle.demands.proofs.Endings.{done-exactly-when, full-exactly-when, quota-exactly-when, reads-rewrites-prints}
@@ -157,7 +157,7 @@ slot call enough =
 
 pub two-slots : Slots (length (memory 7)) p6 1 (1 ∷ []) 2 (Ran Done 1 4 10) ended × (total 1 (1 ∷ []) ≡ 2)
 unfolding bytes total
-two-slots = (first (slot (calls .1) (λ e. absurd (omega arith))) (only (slot (calls .2) (λ e. absurd (omega arith)))), refl)
+two-slots = (first-slot (slot (calls .1) (λ e. absurd (omega arith))) (only-slot (slot (calls .2) (λ e. absurd (omega arith)))), refl)
 
 -- P5 is a plan without c
 pub a-plan-without-c : (p : Bare) × Reads 3 (bytes "[{x}]d") p × WithoutC p
@@ -167,5 +167,5 @@ a-plan-without-c =
     (bare placed, record { within = omega arith; placed = placed; accepted = refl; same = refl }, (tt, (λ e. never cc, tt)))
 
 -- and five numbers stored over the C interface
-pub five-stored : Answers (λ r. five (run-numbers r)) (λ r. Runs p6 2 (memory 7) out r (zeroed 7) (ended ++ replicate 6 7)) (0 ∷ 2 ∷ 4 ∷ 10 ∷ 0 ∷ [])
-five-stored = record { answer = Ran Done 2 4 10; did = calls .0; told = refl }
+pub five-in-array : InArray (λ r. five-of (run-numbers r)) (λ r. Runs p6 2 (memory 7) out r (zeroed 7) (ended ++ replicate 6 7)) (0 ∷ 2 ∷ 4 ∷ 10 ∷ 0 ∷ [])
+five-in-array = record { answer = Ran Done 2 4 10; did = calls .0; told = refl }

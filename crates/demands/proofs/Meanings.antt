@@ -25,8 +25,8 @@ use Rattle.plan.proofs.Refusals.{accepted-injective, accepted-is-not-unread, re
 use Rattle.rules.proofs.Runs.{Run, ask-go, go, ran-run, run-allowed, run-cells, run-leads, run-relabel, spent, stop}
 use Rattle.plan.proofs.Accepting.{accepted-text, accepts, print-accepted, standard-roomy, unread-iff}
 use Rattle.answers.specs.declared.RunRefusal.{RunRefusal}
-use Rattle.answers.specs.Run.{Refuses, bad-arena, bad-text, too-long}
-use Rattle.demands.specs.Words.{Bare, Ends, Reads, Rewritten}
+use Rattle.answers.specs.Run.{Refuses, bad-arena, text-refused, text-too-long}
+use Rattle.demands.specs.Terms.{Bare, Ends, Reads, Rewritten}
 
 pub reads-one : {n : ℕ} {text : List ℕ} {p q : Bare} → Reads n text p → Reads n text q → p ≡ q
 reads-one g h = sym (g .same) ∙ ap bare (accepted-injective (sym (g .accepted) ∙ h .accepted)) ∙ h .same
@@ -36,9 +36,9 @@ pub reads-not-unreadable : {A : Type 0} {n : ℕ} {text : List ℕ} {p : Bare} {
 reads-not-unreadable {n = n} {text} {u = u} g row = accepted-is-not-unread (sym (g .accepted) ∙ unread-iff standard n text u .1 row)
 
 pub reads-not-refused : {A : Type 0} {n : ℕ} {text : List ℕ} {p : Bare} {x : RunRefusal} → Reads n text p → Refuses standard n text x → A
-reads-not-refused {n = n} {text} g (too-long long) = absurd (omega (arith, accepted-text standard n text (g .accepted) .short))
+reads-not-refused {n = n} {text} g (text-too-long long) = absurd (omega (arith, accepted-text standard n text (g .accepted) .short))
 reads-not-refused g (bad-arena short over) = absurd (omega (arith, g .within))
-reads-not-refused {n = n} {text} g (bad-text short few row) =
+reads-not-refused {n = n} {text} g (text-refused short few row) =
     accepted-is-not-unread (sym (accepted-text standard n text (g .accepted) .reads) ∙ row-refused row)
 
 -- more memory, within its limit, reads the same plan
@@ -80,7 +80,7 @@ way-fits {n} (go {p = p} {r = s} g ran) h (suc k) r within leads =
     let same : leads .0 ≡ s = some-injective (sym (leads .1) ∙ next-fits .0) in
     way-fits ran (next-fits .1) k r (omega arith) (subst (λ t. Leads k t r) same (leads .2))
 
--- A plan that came from reading and rewriting: its tokens are names, and it fits the cells lent.
+-- A plan that came from reading and rewriting: its tokens are kept ones, and it fits the cells lent.
 pub record Sound (n : ℕ) (q : Bare) : Type 0 where
   of : Plan ℕ
   same : bare of ≡ q

@@ -12,14 +12,14 @@ use Rattle.rules.specs.declared.Ending.the-variants.{Done}
 use Rattle.plan.specs.Plan.{cells, print}
 use Rattle.rules.specs.Running.{RAN, run-plan}
 use Rattle.plan.specs.Outcomes.{GIVES, Outcome}
-use Rattle.answers.specs.Run.{HowRan, ending-number, quarter, run-numbers, runs}
+use Rattle.answers.specs.Run.{HowRan, ending-number, quarter, run-numbers, run-outcome}
 use Rattle.answers.specs.Slots.{after, next-slot, slots, total}
 use Rattle.rules.proofs.Runs.{more-never-changes}
 use Rattle.answers.proofs.Slots.{slots-end-as-one}
 use Rattle.plan.proofs.Accepting.{standard-roomy}
 use Rattle.run.specs.Calls.{Runs}
-use Rattle.demands.specs.Slots.{Slot, Slots, first, only}
-use Rattle.demands.specs.Words.{Bare, DONE, Ends, Reads, Unrefused, lent, saved}
+use Rattle.demands.specs.Slots.{Slot, Slots, first-slot, only-slot}
+use Rattle.demands.specs.Terms.{Bare, DONE, Ends, Reads, Unrefused, lent, saved}
 use Rattle.demands.proofs.Answered.{every-run-answered}
 use Rattle.demands.proofs.Cases.{EndedRun, ended-gives, ended-saved, ends-unrefused, read-unrefused, run-ended}
 use Rattle.demands.proofs.Meanings.{ends-one, ends-sound, reads-one, reads-with-more, sound-back}
@@ -84,7 +84,7 @@ record SlotRan (n quota : ℕ) (text : List ℕ) (r : RunAnswer) (left : List �
   cells : ℕ
   number : run-numbers r .number ≡ ending-number (how .ending)
   steps : run-numbers r .steps ≡ how .steps
-  gives : runs standard n quota text ≡ GIVES how cells left
+  gives : run-outcome standard n quota text ≡ GIVES how cells left
   result : Bare
   reads-again : Reads n left result
 
@@ -122,7 +122,7 @@ record SlotsRan (n quota : ℕ) (quotas text : List ℕ) (steps : ℕ) (last : R
 slots-ran : {m quota steps : ℕ} {quotas text : List ℕ} {last : RunAnswer} {left : List ℕ} {p : Bare} → Slots m text quota quotas steps last left
     → Reads (quarter m) text p → SlotsRan (quarter m) quota quotas text steps last left
 unfolding slots next-slot after
-slots-ran (only {left = left} slot) reads =
+slots-ran (only-slot {left = left} slot) reads =
     let ran = slot-ran slot reads in
     record {
       ending = ran .how .ending;
@@ -130,7 +130,7 @@ slots-ran (only {left = left} slot) reads =
       number = ran .number;
       gives = ran .gives ∙ ap (λ k. GIVES (record { ending = ran .how .ending; steps = k }) (ran .cells) left) (sym (ran .steps));
     }
-slots-ran {m} (first {r = r} {q = q} {quotas = quotas} {steps = steps} {left = left} slot rest) reads =
+slots-ran {m} (first-slot {r = r} {q = q} {quotas = quotas} {steps = steps} {left = left} slot rest) reads =
     let ran = slot-ran slot reads in
     let later = slots-ran rest (ran .reads-again) in
     record {
@@ -189,8 +189,8 @@ one-slot memory text quota =
 -- Every cut can be run so, with a fresh memory and 64 bytes of output for each cell lent in every slot.
 pub every-cut-has-slots : (memory text : List ℕ) (quota : ℕ) (quotas : List ℕ)
     → (steps : ℕ) × (last : RunAnswer) × (left : List ℕ) × Slots (length memory) text quota quotas steps last left
-every-cut-has-slots memory text quota [] = let s = one-slot memory text quota in (_, _, _, only (s .2))
+every-cut-has-slots memory text quota [] = let s = one-slot memory text quota in (_, _, _, only-slot (s .2))
 every-cut-has-slots memory text quota (q ∷ quotas) =
     let s = one-slot memory text quota in
     let rest = every-cut-has-slots memory (s .1) q quotas in
-    (_, _, _, first (s .2) (rest .3))
+    (_, _, _, first-slot (s .2) (rest .3))

@@ -1,5 +1,5 @@
--- The five numbers tell RUN's answer: a refusal from an ending, and which refusal, by its number and its place. The laws of READ's stand
--- beside their definition.
+-- The five numbers tell RUN's answer. They tell a refusal from an ending, and they tell which refusal it is, by its number and its place.
+-- The laws of READ's numbers stand beside their definition.
 use Prim.Native.Nat.{ℕ, _≤_, _<_}
 use mathlib.Core.Path.{_≡_, refl, ap, sym, _∙_}
 use mathlib.Core.Logic.{_≢_}
@@ -20,7 +20,7 @@ use Rattle.answers.specs.declared.RunAnswer.the-variants.{Ran, Refused}
 use Rattle.answers.specs.declared.RunRefusal.{RunRefusal}
 use Rattle.answers.specs.declared.RunRefusal.the-variants.{BadArena, NotRead, OutShort}
 use Rattle.answers.specs.Run.{ending-number, run-numbers, run-refusal-numbers}
-use Rattle.demands.specs.Words.{DONE, FULL, OUTSHORT, QUOTA, READ}
+use Rattle.demands.specs.Terms.{DONE, FULL, OUTSHORT, QUOTA, READ}
 
 pub ending-at-most : (e : Ending) → ending-number e ≤ FULL
 ending-at-most Done = omega arith

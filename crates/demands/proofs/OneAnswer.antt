@@ -21,13 +21,13 @@ use Rattle.rules.specs.Rewriting.{next}
 use Rattle.rules.specs.Running.{Leads}
 use Rattle.numbers.specs.Numbers.{read-numbers}
 use Rattle.answers.specs.declared.RunAnswer.{RunAnswer}
-use Rattle.answers.specs.Run.{quarter, run-family, run-numbers, runs}
+use Rattle.answers.specs.Run.{quarter, run-family, run-numbers, run-outcome}
 use Rattle.rules.proofs.Rewrites.{finished-iff}
 use Rattle.read.specs.Calls.{ReadsOut}
 use Rattle.run.specs.Calls.{Runs}
-use Rattle.turnip.specs.Stored.{Answers, five}
+use Rattle.turnip.specs.Arrays.{InArray, five-of}
 use Rattle.demands.specs.Demanded.{AsDemanded}
-use Rattle.demands.specs.Words.{Bare, NextFits, NextHasMoreThan, NoRuleApplies, Rewritten, Unrefused, lent, saved}
+use Rattle.demands.specs.Terms.{Bare, NextFits, NextHasMoreThan, NoRuleApplies, Rewritten, Unrefused, lent, saved}
 use Rattle.demands.proofs.Endings.{done-exactly-when, every-plan-had-room, full-exactly-when, quota-exactly-when, reads-rewrites-prints, steps-within-quota}
 use Rattle.demands.proofs.Meanings.{rewritten-one}
 
@@ -41,22 +41,22 @@ pub run-one-answer : {text : List ℕ} {quota : ℕ} {memory memory₂ out : Lis
     → (r ≡ s) × (zeroed ≡ zeroed₂) × (left ≡ left₂)
 unfolding cleared
 run-one-answer {text} {quota} {out = out} {r} {left = left} g h same =
-    let again = subst (λ m. Wrote run-family (runs standard (quarter m) quota text) out r left) same (g .wrote) in
+    let again = subst (λ m. Wrote run-family (run-outcome standard (quarter m) quota text) out r left) same (g .wrote) in
     let once = wrote-once run-family again (h .wrote) in
     (once .0, g .zeroed ∙ ap (λ m. replicate m 0) same ∙ sym (h .zeroed), once .1)
 
 -- Over the C interface, where the answer is told by five numbers in the caller's array, as well.
-pub read-stored-once : {text out left left′ stored stored₂ : List ℕ} → Answers (λ r. five (read-numbers r)) (λ r. ReadsOut text out r left) stored
-    → Answers (λ r. five (read-numbers r)) (λ r. ReadsOut text out r left′) stored₂ → (stored ≡ stored₂) × (left ≡ left′)
-read-stored-once g h =
-    let same = read-one-answer (g .did) (h .did) in (g .told ∙ ap (λ r. five (read-numbers r)) (same .0) ∙ sym (h .told), same .1)
+pub read-array-once : {text out left left′ array array₂ : List ℕ} → InArray (λ r. five-of (read-numbers r)) (λ r. ReadsOut text out r left) array
+    → InArray (λ r. five-of (read-numbers r)) (λ r. ReadsOut text out r left′) array₂ → (array ≡ array₂) × (left ≡ left′)
+read-array-once g h =
+    let same = read-one-answer (g .did) (h .did) in (g .told ∙ ap (λ r. five-of (read-numbers r)) (same .0) ∙ sym (h .told), same .1)
 
-pub run-stored-once : {text : List ℕ} {quota : ℕ} {memory memory₂ out zeroed zeroed₂ left left₂ stored stored₂ : List ℕ}
-    → Answers (λ r. five (run-numbers r)) (λ r. Runs text quota memory out r zeroed left) stored → Answers (λ r. five (run-numbers r)) (λ r. Runs text quota memory₂ out r zeroed₂ left₂) stored₂
-    → length memory ≡ length memory₂ → (stored ≡ stored₂) × (zeroed ≡ zeroed₂) × (left ≡ left₂)
-run-stored-once g h lengths =
+pub run-array-once : {text : List ℕ} {quota : ℕ} {memory memory₂ out zeroed zeroed₂ left left₂ array array₂ : List ℕ}
+    → InArray (λ r. five-of (run-numbers r)) (λ r. Runs text quota memory out r zeroed left) array → InArray (λ r. five-of (run-numbers r)) (λ r. Runs text quota memory₂ out r zeroed₂ left₂) array₂
+    → length memory ≡ length memory₂ → (array ≡ array₂) × (zeroed ≡ zeroed₂) × (left ≡ left₂)
+run-array-once g h lengths =
     let same = run-one-answer (g .did) (h .did) lengths in
-    (g .told ∙ ap (λ r. five (run-numbers r)) (same .0) ∙ sym (h .told), same .1, same .2)
+    (g .told ∙ ap (λ r. five-of (run-numbers r)) (same .0) ∙ sym (h .told), same .1, same .2)
 
 -- The sentences of demand 2 leave one answer too: a version that says FULL always, prints the same text always, rewrites once and then
 -- only counts, or invents its steps meets them only where it answers as RUN does.

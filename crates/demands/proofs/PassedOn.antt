@@ -1,5 +1,5 @@
--- Request 1: "All above the token reader pass this on." What is wrong with a text, a token's fault among it, is told with the same number and
--- place by READ and RUN: whatever the output, and as many cells as a memory may lend.
+-- Request 1: "All above the token reader pass this on." READ and RUN tell what is wrong with a text, a token's fault too, with the same
+-- number and place. They do so whatever the output, and however many cells are lent, within the limit.
 use Prim.Native.Nat.{ℕ, _≤_}
 use mathlib.Core.Path.{_≡_, refl, subst}
 use mathlib.Core.Logic.{_↔_}
@@ -17,11 +17,11 @@ use Rattle.numbers.specs.Numbers.{fault-numbers, read-numbers, unread-numbers}
 use Rattle.answers.specs.declared.RunAnswer.{RunAnswer}
 use Rattle.answers.specs.declared.RunRefusal.{RunRefusal}
 use Rattle.answers.specs.declared.RunRefusal.the-variants.{NotRead as RunNotRead}
-use Rattle.answers.specs.Run.{Refuses, bad-arena, bad-text, run-numbers, too-long as run-too-long}
+use Rattle.answers.specs.Run.{Refuses, bad-arena, text-refused, run-numbers, text-too-long as run-too-long}
 use Rattle.read.specs.Calls.{ReadsOut}
 use Rattle.run.specs.Calls.{Runs}
 use Rattle.demands.specs.Table.{ReadRefuses, RunRefuses, row-18, rows-11-to-17}
-use Rattle.demands.specs.Words.{lent}
+use Rattle.demands.specs.Terms.{lent}
 use Rattle.demands.proofs.Answered.{read-refused, run-refused}
 
 -- the rows of a text's faults do not look at the cells lent
@@ -33,14 +33,14 @@ same-row m (overfull before rest b split clean begins whole) e = never cc
 read-fault-run : {m : ℕ} {text : List ℕ} {u : Unread} {f : TextFault} → m ≤ cellLimit → Unreadable standard cellLimit text u → u ≡ Text f
     → Refuses standard m text (RunNotRead (Text f))
 read-fault-run {m} {text} few (too-long long) e = subst (λ v. Refuses standard m text (RunNotRead v)) e (run-too-long long)
-read-fault-run {m} few (bad-row short row) e = bad-text short few (same-row m row e)
+read-fault-run {m} few (bad-row short row) e = text-refused short few (same-row m row e)
 
 run-fault-read : {m : ℕ} {text : List ℕ} {x : RunRefusal} {f : TextFault} → Refuses standard m text x → x ≡ RunNotRead (Text f)
     → Unreadable standard cellLimit text (Text f)
 run-fault-read {text = text} {f = f} (run-too-long long) e =
     subst (Unreadable standard cellLimit text) (let same : Text _ ≡ Text f = cc in same) (too-long long)
 run-fault-read (bad-arena short many) e = never cc
-run-fault-read {f = f} (bad-text {u} short few row) e = bad-row short (same-row cellLimit row (let same : u ≡ Text f = cc in same))
+run-fault-read {f = f} (text-refused {u} short few row) e = bad-row short (same-row cellLimit row (let same : u ≡ Text f = cc in same))
 
 -- READ tells what is wrong with a text as the table says, whatever the output
 pub refused-by-its-text : {text out : List ℕ} {r : ReadAnswer} {out′ : List ℕ} → ReadsOut text out r out′ → (u : Unread)

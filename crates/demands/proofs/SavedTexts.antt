@@ -10,24 +10,24 @@ use Rattle.kinds.specs.Limits.{cellLimit, standard, textLimit, tokenLimit}
 use Rattle.plan.specs.declared.ReadAnswer.{ReadAnswer}
 use Rattle.plan.specs.declared.Unread.{Unread}
 use Rattle.plan.specs.Plan.{cells, print}
-use Rattle.plan.specs.Refusals.{Row, bad-byte, bad-text as bad-row, bad-token, fault, faulty, overfull, too-long, unclosed, unmatched}
+use Rattle.plan.specs.Refusals.{Row, bad-byte, bad-text as bad-row, bad-token, first-fault-there, faulty, overfull, too-long, unclosed, unmatched}
 use Rattle.answers.specs.declared.RunAnswer.{RunAnswer}
 use Rattle.answers.specs.declared.RunRefusal.{RunRefusal}
-use Rattle.answers.specs.Run.{Refuses, bad-arena, bad-text as run-bad-row, run-numbers, run-refusal-numbers, too-long as run-too-long}
+use Rattle.answers.specs.Run.{Refuses, bad-arena, text-refused as run-bad-row, run-numbers, run-refusal-numbers, text-too-long as run-too-long}
 use Rattle.numbers.specs.Numbers.{read-numbers, unread-numbers}
 use Rattle.numbers.proofs.Told.{token-fault-range, unread-number-is}
 use Rattle.read.specs.Calls.{ReadsOut}
 use Rattle.run.specs.Calls.{Runs}
-use Rattle.demands.specs.Words.{OUTSHORT, OVERFULL, Reads, TOOLONG, Unrefused, lent, saved}
+use Rattle.demands.specs.Terms.{OUTSHORT, OVERFULL, Reads, TOOLONG, Unrefused, lent, saved}
 use Rattle.demands.proofs.Cases.{EndedRun, ReadCase, RunCase, bad-text, ended, ended-saved, is-read, out-short, read-case, run-case, run-ended}
 use Rattle.demands.proofs.Meanings.{ends-sound, reads-not-refused, sound-back, sound-cells, sound-length}
 use Rattle.demands.proofs.Numbers.{ending-at-most}
 
 -- 11 is for no row of the text's bytes, and 18 for no row before the output's
 row-number : {n : ℕ} {text : List ℕ} {u : Unread} → Row tokenLimit n text u → unread-numbers u .number ≢ TOOLONG
-row-number (faulty (fault before rest b split f (bad-byte c))) e = omega arith
-row-number (faulty (fault before rest b split f (bad-token {f = t} c first))) e = omega (arith, token-fault-range t)
-row-number (faulty (fault before rest b split f (unmatched c))) e = omega arith
+row-number (faulty (first-fault-there before rest b split f (bad-byte c))) e = omega arith
+row-number (faulty (first-fault-there before rest b split f (bad-token {f = t} c first))) e = omega (arith, token-fault-range t)
+row-number (faulty (first-fault-there before rest b split f (unmatched c))) e = omega arith
 row-number (faulty (unclosed f)) e = omega arith
 row-number (overfull before rest b split f i w) e = omega arith
 

@@ -10,7 +10,7 @@ use Rattle.plan.specs.Plan.{WithoutC, cells}
 use Rattle.answers.specs.Run.{ending-number, run-numbers}
 use Rattle.rules.proofs.Runs.{without-c-done, without-c-not-full}
 use Rattle.run.specs.Calls.{Runs}
-use Rattle.demands.specs.Words.{Bare, DONE, FULL, Reads, Unrefused, lent}
+use Rattle.demands.specs.Terms.{Bare, DONE, FULL, Reads, Unrefused, lent}
 use Rattle.demands.proofs.Cases.{EndedRun, run-ended}
 use Rattle.demands.proofs.Meanings.{reads-one, reads-sound, sound-cells}
 use Rattle.demands.proofs.Numbers.{same-ending}

@@ -1,11 +1,11 @@
--- Demand 2 as one statement about an ending number, steps and a printed text, whoever gives them: with it "no second answer" can be
--- said of the request's own sentences, and not only of the contract.
+-- Demand 2 as one statement about an ending number, steps and a printed text, whoever gives them. So "no second answer" can be said of the
+-- request's own sentences, and not only of the contract.
 use Prim.Native.Nat.{ℕ, _≤_}
 use mathlib.Core.Path.{_≡_}
 use mathlib.Core.Logic.{_↔_}
 use mathlib.Core.List.{List}
 use Rattle.plan.specs.Plan.{cells, print}
-use Rattle.demands.specs.Words.{Bare, DONE, FULL, NextFits, NextHasMoreThan, NoRuleApplies, QUOTA, Rewritten}
+use Rattle.demands.specs.Terms.{Bare, DONE, FULL, NextFits, NextHasMoreThan, NoRuleApplies, QUOTA, Rewritten}
 
 pub record AsDemanded (n quota : ℕ) (text : List ℕ) (number steps : ℕ) (printed : List ℕ) : Type 0 where
   pub its-plan : Bare

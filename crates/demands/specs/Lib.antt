@@ -1,4 +1,4 @@
 pub mod Demanded
 pub mod Slots
 pub mod Table
-pub mod Words
+pub mod Terms

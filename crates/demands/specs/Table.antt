@@ -1,5 +1,5 @@
--- When READ and RUN refuse and with which place: rows 11 to 17 of document 01's table, 21 to 25 for 14, and row 18, the printed text longer
--- than the output. Of these READ's table has no row 12.
+-- When READ and RUN refuse, and with which place. The rows are 11 to 17 of document 01's table, with 21 to 25 in place of 14, and row 18:
+-- the printed text is longer than the output. READ's table has no row 12.
 use Prim.Native.Nat.{ℕ, _<_}
 use mathlib.Core.List.{List}
 use lib.ListN.{length}
@@ -13,7 +13,7 @@ use Rattle.rules.specs.declared.Ending.{Ending}
 use Rattle.answers.specs.declared.RunRefusal.{RunRefusal}
 use Rattle.answers.specs.declared.RunRefusal.the-variants.{OutShort}
 use Rattle.answers.specs.Run.{Refuses}
-use Rattle.demands.specs.Words.{Bare, Ends, Reads}
+use Rattle.demands.specs.Terms.{Bare, Ends, Reads}
 
 pub data ReadRefuses (text out : List ℕ) : ReadRefusal → Type 0 where
   rows-11-to-17 : {u : Unread} → Unreadable standard cellLimit text u → ReadRefuses text out (NotRead u)

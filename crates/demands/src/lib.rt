@@ -1,2 +1,2 @@
-// What the request asks for, stated about the services. Nothing is done here: specs/ says what a call is and names the
-// request's words, proofs/ has one module for each demand.
+// What the request asks for, stated of calls of the services, in the request's own words and order; also that no call has a second answer,
+// and an instance of every word used. Nothing is done here. specs/ has the request's terms, and proofs/ has one module for each demand.

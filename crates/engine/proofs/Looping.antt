@@ -1,5 +1,5 @@
--- The turns of a run: the definition's run from the first plan is as many steps and the definition's run from the plan that is
--- held now, with what is left of the quota. No turn looks at a cell's number, so the runs are told without labels.
+-- The turns of a run. The definition's run from the first plan is the steps made so far, and then the definition's run from the plan that
+-- is held now, with what is left of the quota. No turn looks at a cell's number, so the runs are told without labels.
 use Prim.Native.Nat.{ℕ, zero, suc, _+_, _-_, _<_}
 use mathlib.Core.Path.{_≡_, refl, ap, sym, _∙_, subst}
 use mathlib.Core.List.{List}
@@ -9,7 +9,7 @@ use borrow.Author.Tests.{ltb-false, ltb-true}
 use lib.Dec.{ltb}
 use Rattle.kinds.specs.declared.Cell.{Cell}
 use Rattle.plan.specs.Plan.{Plan, bare, cells}
-use Rattle.rules.specs.Running.{Ran, RAN, one-more, run-plan}
+use Rattle.rules.specs.Running.{Ran, RAN, one-step-more, run-plan}
 use Rattle.rules.specs.declared.Ending.{Ending}
 use Rattle.rules.specs.declared.Ending.the-variants.{Done, Quota, Full}
 use Rattle.plan.proofs.Plans.{cells-relabel}
@@ -24,10 +24,10 @@ use Rattle.engine.specs.declared.Turn.the-variants.{Stopped, Went}
 -- so many steps more
 pub plus : {L : Type 0} → (steps : ℕ) → Ran L → Ran L
 plus zero r = r
-plus (suc k) r = plus k (one-more r)
+plus (suc k) r = plus k (one-step-more r)
 
 plus-ran : {L : Type 0} (k : ℕ) (e : Ending) (s : ℕ) (p : Plan L) → plus k (RAN e s p) ≡ RAN e (k + s) p
-unfolding plus one-more
+unfolding plus one-step-more
 plus-ran zero e s p = ap (λ x. RAN e x p) (omega arith)
 plus-ran (suc k) e s p = plus-ran k e (suc s) p ∙ ap (λ x. RAN e x p) (omega arith)
 
@@ -88,14 +88,14 @@ module _ {text m₀ : List ℕ} {h₀ : Held} {size₀ quota : ℕ} {m : List �
       let further = ltb-true steps quota is-more in
       let left′ : ℕ = r .left - 1 in
       let one : r .left ≡ suc left′ = omega (arith, r .counts) in
-      let on : run-plan n (suc left′) (bare (r .plan)) ≡ one-more (run-plan n left′ (bare p)) =
+      let on : run-plan n (suc left′) (bare (r .plan)) ≡ one-step-more (run-plan n left′ (bare p)) =
       run-go n left′ (bare (r .plan)) (ask-relabel _ n (r .plan) (rw cells-same at asks)) in
       record {
         plan = made .plan;
         sized = record { held = made .held; sized = sized ∙ sym (cells-relabel (λ l. tt) p) ∙ ap cells (sym (made .alike)) ∙ cells-relabel (λ l. tt) (made .plan) };
         left = left′;
         counts = omega (arith, r .counts);
-        runs = r .runs ∙ ap (λ k. plus steps (run-plan n k (bare (r .plan)))) one ∙ ap (plus steps) (on ∙ ap (λ x. one-more (run-plan n left′ x)) (sym (made .alike)))
+        runs = r .runs ∙ ap (λ k. plus steps (run-plan n k (bare (r .plan)))) one ∙ ap (plus steps) (on ∙ ap (λ x. one-step-more (run-plan n left′ x)) (sym (made .alike)))
             ∙ ap (λ k. plus k (run-plan n left′ (bare (made .plan)))) (sym (add-one steps));
       }
 

@@ -9,7 +9,7 @@ use borrow.Author.Tests.{lt-leb}
 use Rattle.rules.specs.Frames.{Frame, plug, top}
 use Rattle.plan.specs.Plan.{Plan, cells}
 use Rattle.rules.specs.Rewriting.{next}
-use Rattle.rules.specs.Running.{GO, ask}
+use Rattle.rules.specs.Running.{GOES-ON, ask}
 use Rattle.rules.specs.declared.Ending.the-variants.{Done, Quota, Full}
 use Rattle.rules.proofs.Frames.{ahead-top}
 use Rattle.rules.proofs.Runs.{ask-go}
@@ -75,7 +75,7 @@ module _ {text m : List ℕ} {h : Held} {size : ℕ} {r : Hunted} (finds : (t : 
           (refl, rw (is, lt-leb (cells (plug (found t s .0) (found t s .2))) (h .outer .0) (omega arith)))
 
       module _ (fits : after ≤ h .outer .0) where
-        goes : (t : Plan ℕ) (s : Sized text m h size t) → ask (h .outer .0) (next t) ≡ GO (plug (found t s .0) (found t s .2))
+        goes : (t : Plan ℕ) (s : Sized text m h size t) → ask (h .outer .0) (next t) ≡ GOES-ON (plug (found t s .0) (found t s .2))
         goes t s = let (is, many) = is-next t s in ask-go (h .outer .0) (next t) (plug (found t s .0) (found t s .2)) .1 (is, omega arith)
 
         pub turn-quota : (more : Bool) → not more ≡ true → TurnMade text m h size more m (Stopped Quota)

@@ -1,4 +1,4 @@
--- What one turn and a whole run make of the plan that the memory holds: those of the definition, asked in its order.
+-- What one turn and a whole run make of the plan that the memory holds. They make of it what the definition makes, and ask in its order.
 use Prim.Native.Nat.{ℕ}
 use mathlib.Core.Path.{_≡_}
 use mathlib.Core.Bool.{Bool, true, false}
@@ -7,7 +7,7 @@ use Rattle.rules.specs.declared.Ending.the-variants.{Done, Quota, Full}
 use Rattle.rules.specs.Frames.{Frame, plug}
 use Rattle.plan.specs.Plan.{Plan, bare, cells}
 use Rattle.rules.specs.Rewriting.{next}
-use Rattle.rules.specs.Running.{STOP, GO, ask, RAN, run-plan}
+use Rattle.rules.specs.Running.{ENDS, GOES-ON, ask, RAN, run-plan}
 use Rattle.memory.specs.Held.{HeldIn, HeldAlike}
 use Rattle.memory.specs.Model.{Lent}
 use Rattle.memory.specs.declared.Held.{Held}
@@ -17,7 +17,7 @@ use Rattle.engine.specs.declared.Ended.{Ended}
 use Rattle.engine.specs.declared.Turn.{Turn}
 use Rattle.engine.specs.declared.Turn.the-variants.{Stopped, Went}
 
--- the memory holds the plan with q in the frame, which has so many cells, and the rewrite at the spot gives q′ there
+-- the memory holds the plan with q in the frame; that plan has so many cells; and the rewrite at the spot makes q′ of q
 pub record Spotted (text m : List ℕ) (h : Held) (spot : Spot) (size : ℕ) (f : Frame ℕ) (q q′ : Plan ℕ) : Type 0 where
   pub held : HeldIn text m h (plug f q)
   pub stands : Stands spot (cell-of (h .outer .0) f) q q′
@@ -43,11 +43,11 @@ pub record Runnable (text m : List ℕ) (h : Held) (size : ℕ) : Type 0 where
 -- One turn: the run stops and the memory is as it was; or the memory holds the next plan. Whether there is a next plan and
 -- whether it has room is asked first, and the quota after that.
 abbrev pub Turned : (text m : List ℕ) → Held → (more : Bool) → (m′ : List ℕ) → Turn → (t : Plan ℕ) → Type 0
-Turned text m h more m′ (Stopped Done) t = (m′ ≡ m) × (ask (h .outer .0) (next t) ≡ STOP Done)
-Turned text m h more m′ (Stopped Full) t = (m′ ≡ m) × (ask (h .outer .0) (next t) ≡ STOP Full)
-Turned text m h more m′ (Stopped Quota) t = (m′ ≡ m) × (more ≡ false) × ((p : Plan ℕ) × (ask (h .outer .0) (next t) ≡ GO p))
+Turned text m h more m′ (Stopped Done) t = (m′ ≡ m) × (ask (h .outer .0) (next t) ≡ ENDS Done)
+Turned text m h more m′ (Stopped Full) t = (m′ ≡ m) × (ask (h .outer .0) (next t) ≡ ENDS Full)
+Turned text m h more m′ (Stopped Quota) t = (m′ ≡ m) × (more ≡ false) × ((p : Plan ℕ) × (ask (h .outer .0) (next t) ≡ GOES-ON p))
 Turned text m h more m′ (Went h′ size) t =
-    (more ≡ true) × ((p : Plan ℕ) × (ask (h .outer .0) (next t) ≡ GO p) × HeldAlike text m′ h′ p × (size ≡ cells p))
+    (more ≡ true) × ((p : Plan ℕ) × (ask (h .outer .0) (next t) ≡ GOES-ON p) × HeldAlike text m′ h′ p × (size ≡ cells p))
 
 -- one turn of whatever plan the memory held
 abbrev pub TurnMade : (text m : List ℕ) → Held → (size : ℕ) → (more : Bool) → (m′ : List ℕ) → Turn → Type 0

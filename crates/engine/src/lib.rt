@@ -1,5 +1,5 @@
-// A run of a plan in the memory: turn after turn, each of them one rewrite of the definition, until no operator is ready, the
-// next plan finds no room, or the quota is used up; asked in this order.
+// One turn of a run of a plan in the memory, and the whole run: DONE, FULL and QUOTA asked in the definition's order. Each turn makes one
+// rewrite of the definition. The run goes on until no operator is ready, the next plan finds no room, or the quota is used up.
 ghost use mathlib.Core.Path.{_≡_};
 ghost use Prim.Native.Nat.{ℕ};
 ghost use Rattle.rules.specs.Frames.{Frame, plug};

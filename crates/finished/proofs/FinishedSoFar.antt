@@ -1,5 +1,5 @@
--- The walk that looks for a ready operator: none is among the pieces passed, so one is in the plan exactly where one is among the
--- pieces to come, behind so many blocks and with these bits of the open ones.
+-- The walk that looks for a ready operator. None is among the pieces passed. So one is in the plan exactly where one is among the pieces to
+-- come, with so many blocks right before these and with these bits of the open blocks.
 use Prim.Native.Nat.{ℕ, zero, suc, _+_, _-_, _≤_, _<_}
 use mathlib.Core.Path.{_≡_, refl, ap, sym, subst, _∙_}
 use mathlib.Core.Bool.{Bool, true, false, _||_}
@@ -10,7 +10,7 @@ use lib.Dec.{ltb}
 use lib.ListN.{length, drop, getD, set, length-set}
 use Rattle.kinds.specs.Limits.{cellLimit, tokenLimit}
 use Rattle.kinds.specs.declared.Token.{Token as TextToken}
-use Rattle.plan.specs.Pieces.{Piece as PlanPiece, END, Closes, Shows, pieces, starts}
+use Rattle.plan.specs.Pieces.{Piece as PlanPiece, END, Closes, Shows, pieces, piece-labels}
 use Rattle.plan.specs.Plan.{Plan}
 use Rattle.plan.specs.declared.Operator.{Operator as PlanOperator}
 use Rattle.plan.proofs.Pieces.{cells-pieces, closes-pieces}
@@ -21,17 +21,17 @@ use Rattle.pieces.specs.declared.Piece.the-variants.{Operator, Token, Open, Clo
 use Rattle.items.specs.Walk.{Passed, ShowsAhead}
 use Rattle.items.proofs.Walking.{passed-ahead, passed-here}
 use Rattle.finished.specs.ShowsPlan.{ShowsPlan}
-use Rattle.finished.specs.Stirring.{blocks-behind, stirs}
-use Rattle.finished.proofs.Stirring.{stirs-unless-finished}
+use Rattle.finished.specs.AnyReady.{blocks-behind, any-ready}
+use Rattle.finished.proofs.AnyReady.{ready-unless-finished}
 use Rattle.finished.proofs.Turning.{Like, Turned, close-turned, kept, like, open-turned, operator-turned, token-turned}
 
 pub record FinishedSoFar (text : List ℕ) (at blocks : ℕ) (second : List Bool) (deep : ℕ) : Type 0 where
   pub ahead : ShowsAhead text at
   pub long : length second ≡ cellLimit
   pub closes : Closes deep (ahead .come)
-  pub room : deep + length (starts (ahead .come)) ≤ cellLimit
+  pub room : deep + length (piece-labels (ahead .come)) ≤ cellLimit
   pub each : (ps : List (PlanPiece ℕ)) → Shows tokenLimit 0 text ps
-      → (qs : List (PlanPiece ℕ)) × Shows tokenLimit at (drop at text) qs × (stirs 0 [] ps ≡ stirs blocks (kept second deep) qs)
+      → (qs : List (PlanPiece ℕ)) × Shows tokenLimit at (drop at text) qs × (any-ready 0 [] ps ≡ any-ready blocks (kept second deep) qs)
 
 pub finished-first : {text : List ℕ} {second : List Bool} → length second ≡ cellLimit → ShowsPlan text → FinishedSoFar text 0 0 second 0
 unfolding kept
@@ -47,10 +47,10 @@ finished-first long s =
 module _ {text : List ℕ} {at blocks : ℕ} {second : List Bool} {deep : ℕ} (f : FinishedSoFar text at blocks second deep) where
   pub finished-end : ((qs : List (PlanPiece ℕ)) → Shows tokenLimit at (drop at text) qs → qs ≡ [])
       → (p : Plan ℕ) → Shows tokenLimit 0 text (pieces p) → true ≡ finished p
-  unfolding stirs
+  unfolding any-ready
   finished-end none p s =
       let (qs, shows, same) = f .each (pieces p) s in
-      sym (not-false (finished p) (sym (stirs-unless-finished p) ∙ same ∙ ap (stirs blocks (kept second deep)) (none qs shows)))
+      sym (not-false (finished p) (sym (ready-unless-finished p) ∙ same ∙ ap (any-ready blocks (kept second deep)) (none qs shows)))
 
   module _ {k : Piece} {place rest : ℕ} (passed : (qs : List (PlanPiece ℕ)) → Shows tokenLimit at (drop at text) qs → Passed text at k place rest qs) where
     first-like : {qs : List (PlanPiece ℕ)} {y : Piece} → k ≡ y → (p : Passed text at k place rest qs) → Like y (p .first)
@@ -67,24 +67,24 @@ module _ {text : List ℕ} {at blocks : ℕ} {second : List Bool} {deep : ℕ} (
           ahead = passed-ahead (f .ahead) here;
           long = long;
           closes = t .closes (subst (Closes deep) (here .parts) (f .closes));
-          room = omega (arith, t .room, f .room, ap (λ ps. length (starts ps)) (here .parts));
+          room = omega (arith, t .room, f .room, ap (λ ps. length (piece-labels ps)) (here .parts));
           each = λ ps s.
               let (qs, shows, same) = f .each ps s in
               let p = passed qs shows in
-              (p .later, p .shows, same ∙ ap (stirs blocks (kept second deep)) (p .parts) ∙ turned (p .later) (p .first) (first-like e p) .same);
+              (p .later, p .shows, same ∙ ap (any-ready blocks (kept second deep)) (p .parts) ∙ turned (p .later) (p .first) (first-like e p) .same);
         }
 
     module _ {o : PlanOperator} (e : k ≡ Operator o) where
       -- an operator that takes no more blocks than come right before it is ready
       pub finished-not : takes o ≤ blocks → (p : Plan ℕ) → Shows tokenLimit 0 text (pieces p) → false ≡ finished p
-      unfolding stirs
+      unfolding any-ready
       finished-not h p s =
           let (qs, shows, same) = f .each (pieces p) s in
           let q = passed qs shows in
           let (l, is) = first-like e q in
-          let ready : stirs blocks (kept second deep) qs ≡ true =
-          ap (stirs blocks (kept second deep)) (q .parts ∙ ap (_∷ q .later) is) ∙ ap (_|| stirs 0 (kept second deep) (q .later)) (le-leb (takes o) blocks h) in
-          sym (not-true (finished p) (sym (stirs-unless-finished p) ∙ same ∙ ready))
+          let ready : any-ready blocks (kept second deep) qs ≡ true =
+          ap (any-ready blocks (kept second deep)) (q .parts ∙ ap (_∷ q .later) is) ∙ ap (_|| any-ready 0 (kept second deep) (q .later)) (le-leb (takes o) blocks h) in
+          sym (not-true (finished p) (sym (ready-unless-finished p) ∙ same ∙ ready))
 
       pub finished-operator : blocks < takes o → FinishedSoFar text rest 0 second deep
       finished-operator h = turn e (f .long) (λ ps. operator-turned blocks second deep ps o h)
@@ -95,11 +95,11 @@ module _ {text : List ℕ} {at blocks : ℕ} {second : List Bool} {deep : ℕ} (
     module _ (e : k ≡ Open) where
       -- a block more can be open: it is a cell of the plan
       pub finished-deep : deep < cellLimit
-      unfolding starts
+      unfolding piece-labels
       finished-deep =
           let here = passed-here (f .ahead) passed in
           let (l, is) = first-like e here in
-          omega (arith, f .room, ap (λ ps. length (starts ps)) (here .parts ∙ ap (_∷ here .later) is))
+          omega (arith, f .room, ap (λ ps. length (piece-labels ps)) (here .parts ∙ ap (_∷ here .later) is))
 
       pub finished-open : FinishedSoFar text rest 0 (set second deep (ltb 0 blocks)) (deep + 1)
       finished-open =

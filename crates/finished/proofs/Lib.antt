@@ -1,3 +1,3 @@
+pub mod AnyReady
 pub mod FinishedSoFar
-pub mod Stirring
 pub mod Turning

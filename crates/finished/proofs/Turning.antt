@@ -1,5 +1,5 @@
--- What one piece does to the count of blocks and to the bits of the open ones, as the code keeps them: the pieces behind it tell the
--- same as all of them did.
+-- What one piece does to the count of blocks and to the bits of the open blocks, as the code keeps them. With the new count and bits, the
+-- pieces behind it tell the same as it and they told with the old ones.
 use Prim.Native.Nat.{ℕ, zero, suc, _+_, _-_, _≤_, _<_}
 use mathlib.Core.Path.{_≡_, refl, ap, ap₂, sym}
 use mathlib.Core.Bool.{Bool, false, _||_}
@@ -11,13 +11,13 @@ use lib.Dec.{ltb}
 use lib.ListN.{length, getD, set}
 use lib.Seq.{getD-set-other, getD-set-same}
 use Rattle.kinds.specs.declared.Token.{Token as TextToken}
-use Rattle.plan.specs.Pieces.{Piece as PlanPiece, OP, TOKEN, BEGIN, END, Closes, starts}
+use Rattle.plan.specs.Pieces.{Piece as PlanPiece, OP, TOKEN, BEGIN, END, Closes, piece-labels}
 use Rattle.plan.specs.declared.Operator.{Operator as PlanOperator}
 use Rattle.rules.specs.Leftmost.{takes}
 use Rattle.pieces.specs.Written.{Is, is-operator, is-token, is-open, is-close}
 use Rattle.pieces.specs.declared.Piece.{Piece}
 use Rattle.pieces.specs.declared.Piece.the-variants.{Operator, Token, Open, Close}
-use Rattle.finished.specs.Stirring.{blocks-behind, stirs}
+use Rattle.finished.specs.AnyReady.{blocks-behind, any-ready}
 
 -- the bits of the open blocks, innermost first, where so many are open
 unfoldable pub kept : (second : List Bool) → (deep : ℕ) → List Bool
@@ -49,32 +49,32 @@ like is-close = refl
 
 -- what a piece does: the pieces behind it tell the same with the new count and bits, close the blocks still open, and have as few cells
 pub record Turned (blocks : ℕ) (second : List Bool) (deep : ℕ) (x : PlanPiece ℕ) (ps : List (PlanPiece ℕ)) (blocks′ : ℕ) (second′ : List Bool) (deep′ : ℕ) : Type 0 where
-  pub same : stirs blocks (kept second deep) (x ∷ ps) ≡ stirs blocks′ (kept second′ deep′) ps
+  pub same : any-ready blocks (kept second deep) (x ∷ ps) ≡ any-ready blocks′ (kept second′ deep′) ps
   pub closes : Closes deep (x ∷ ps) → Closes deep′ ps
-  pub room : deep′ + length (starts ps) ≤ deep + length (starts (x ∷ ps))
+  pub room : deep′ + length (piece-labels ps) ≤ deep + length (piece-labels (x ∷ ps))
 
 module _ (blocks : ℕ) (second : List Bool) (deep : ℕ) (ps : List (PlanPiece ℕ)) where
   pub operator-turned : (o : PlanOperator) → blocks < takes o → (x : PlanPiece ℕ) → Like (Operator o) x → Turned blocks second deep x ps 0 second deep
-  unfolding stirs starts
+  unfolding any-ready piece-labels
   operator-turned o h x (l, e) =
-      rw e record { same = ap (_|| stirs 0 (kept second deep) ps) (lt-leb (takes o) blocks h); closes = λ c. c; room = omega arith }
+      rw e record { same = ap (_|| any-ready 0 (kept second deep) ps) (lt-leb (takes o) blocks h); closes = λ c. c; room = omega arith }
 
   pub token-turned : (t : TextToken) (x : PlanPiece ℕ) → Like (Token t) x → Turned blocks second deep x ps 0 second deep
-  unfolding stirs starts
+  unfolding any-ready piece-labels
   token-turned t x (l, s, e) = rw e record { same = refl; closes = λ c. c; room = omega arith }
 
   pub open-turned : deep < length second → (x : PlanPiece ℕ) → Like Open x → Turned blocks second deep x ps 0 (set second deep (ltb 0 blocks)) (deep + 1)
-  unfolding stirs starts
+  unfolding any-ready piece-labels
   open-turned h x (l, e) =
       rw e record {
-        same = ap (λ bits. stirs 0 bits ps) (sym (kept-more second deep (ltb 0 blocks) h));
+        same = ap (λ bits. any-ready 0 bits ps) (sym (kept-more second deep (ltb 0 blocks) h));
         closes = λ c. rw add-one c;
         room = omega arith;
       }
 
 pub close-turned : (blocks : ℕ) (second : List Bool) (deep : ℕ) (ps : List (PlanPiece ℕ)) (b : Bool) → getD second (deep - 1) false ≡ b → 0 < deep
     → (x : PlanPiece ℕ) → Like Close x → Turned blocks second deep x ps (blocks-behind b) second (deep - 1)
-unfolding stirs starts kept
+unfolding any-ready piece-labels kept
 close-turned blocks second zero ps b is h x e = absurd (omega arith)
 close-turned blocks second (suc d) ps b is h x e =
     let less : suc d - 1 ≡ d = omega arith in

@@ -1,2 +1,2 @@
+pub mod AnyReady
 pub mod ShowsPlan
-pub mod Stirring

@@ -1,6 +1,6 @@
-// Whether the plan of an accepted text is finished: told by the text's pieces in one pass, without memory and without recursion.
-// An operator is ready where as many blocks come right before it as it takes. Whether a block came right behind another is one bit,
-// kept while the block is open: so nothing is looked for twice, however deep the plan is nested.
+// Whether the plan of an accepted text has no ready operator, told by the text alone in one pass, without lent memory and without
+// recursion. An operator is ready where as many blocks come right before it as it takes. One bit says whether a block came right behind
+// another, and is kept while the block is open. So nothing is looked for twice, however deep the plan is nested.
 ghost use mathlib.Core.Path.{_≡_};
 ghost use Prim.Native.Nat.{ℕ};
 ghost use Rattle.kinds.specs.Limits.{tokenLimit};

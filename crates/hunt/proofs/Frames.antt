@@ -1,6 +1,6 @@
--- Laws of what stands around a sequence in the memory: the ports and the items of a plan are those before the sequence, its own
--- and those behind it. Another sequence put there keeps what is around it, so each law is one of both. The ports before end
--- with the start of the sequence's cell and those behind begin with its close, so both stand in the law by themselves.
+-- Laws of what stands around a sequence in the memory. The ports of a plan are those before the sequence, its own and those behind it. The
+-- same holds of its items. Another sequence put there keeps what is around it, so each law holds of both sequences. The last port before
+-- the sequence is the start of its cell, and the first port behind it is that cell's close. The laws name these two ports by themselves.
 use Prim.Native.Nat.{ℕ, _≤_, _<_}
 use mathlib.Core.Path.{_≡_, refl, _∙_, subst}
 use mathlib.Core.List.{List, [], _∷_, _++_, append-assoc}

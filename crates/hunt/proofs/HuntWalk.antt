@@ -17,14 +17,14 @@ use Rattle.memory.specs.Model.{Lent}
 use Rattle.memory.specs.declared.Held.{Held}
 use Rattle.memory.proofs.Lists.{linked-split}
 use Rattle.blocks.proofs.Ways.{ahead, Way, WayAhead, turn}
-use Rattle.hunt.specs.Hunting.{SequenceAt, Scannable, Scanned, Finds, Huntable, cell-of, opens}
+use Rattle.hunt.specs.Hunting.{SequenceAt, Scannable, Scanned, Finds, Huntable, cell-of, block-opens}
 use Rattle.hunt.specs.declared.Spot.{Spot}
 use Rattle.hunt.specs.declared.Hunted.{Hunted}
 use Rattle.hunt.specs.declared.Hunted.the-variants.{Nothing, Ready}
 use Rattle.hunt.proofs.WaysThrough.{way-whole, way-at}
 use Rattle.hunt.proofs.Frames.{left, chain-plug, inside-plug}
 use Rattle.hunt.proofs.OnePlan.{one-held}
-use Rattle.hunt.proofs.Standing.{Standing, onward, Opening, at-opening, passed, at-end, stand-opening, stand-passing, pass-opening}
+use Rattle.hunt.proofs.Whereabouts.{Whereabouts, onward, Opening, at-opening, passed, at-end, stand-opening, stand-passing, pass-opening}
 use Rattle.hunt.proofs.Tests.{outermost-datum}
 
 pub record Walking (text m : List ℕ) (h : Held) (stop port : ℕ) : Type 0 where
@@ -33,7 +33,7 @@ pub record Walking (text m : List ℕ) (h : Held) (stop port : ℕ) : Type 0 whe
   pub held : HeldIn text m h plan
   pub ends : stop ≡ close (h .outer .0)
   pub way : Way (held-numbers m h) (suc (h .outer .0)) stop port (ahead (held-numbers m h) (suc (h .outer .0)) stop port)
-  pub standing : Standing (held-numbers m h) (h .outer .0) plan port
+  pub standing : Whereabouts (held-numbers m h) (h .outer .0) plan port
 
 module _ {text m : List ℕ} {h : Held} {from : ℕ} (can : Huntable text m h from) where
   abbrev n : ℕ
@@ -87,13 +87,13 @@ module _ {text m : List ℕ} {h : Held} {stop port : ℕ} (k : Walking text m h 
   outermost : datum (held-numbers m h) (start (h .outer .0)) ≡ block-kind
   outermost = outermost-datum (h .outer .0) m (h .first .0) (start (h .outer .0)) (k .lent) refl
 
-  next-walking : (next : ℕ) → next ≡ link (held-numbers m h) port → Standing (held-numbers m h) (h .outer .0) (k .plan) (link (held-numbers m h) port)
+  next-walking : (next : ℕ) → next ≡ link (held-numbers m h) port → Whereabouts (held-numbers m h) (h .outer .0) (k .plan) (link (held-numbers m h) port)
       → Walking text m h stop next
   next-walking next e standing =
       rw e record { lent = k .lent; plan = k .plan; held = k .held; ends = k .ends; way = here .way; standing = standing }
 
-  module _ (opened : Bool) (tells : opened ≡ opens (held-numbers m h) port) where
-    opening : opened ≡ true → Standing (held-numbers m h) (h .outer .0) (k .plan) port → Opening (held-numbers m h) (h .outer .0) (k .plan) port
+  module _ (opened : Bool) (tells : opened ≡ block-opens (held-numbers m h) port) where
+    opening : opened ≡ true → Whereabouts (held-numbers m h) (h .outer .0) (k .plan) port → Opening (held-numbers m h) (h .outer .0) (k .plan) port
     opening does (at-opening o e other) = o
     opening does (passed p e other) = never cc
     opening does (at-end e last) = absurd (more (last ∙ sym (k .ends)))
@@ -102,7 +102,7 @@ module _ {text m : List ℕ} {h : Held} {stop port : ℕ} (k : Walking text m h 
     pub hunt-on : opened ≡ false → (next : ℕ) → next ≡ link (held-numbers m h) port → Walking text m h stop next
     hunt-on shut next e = on (k .standing)
       where
-        on : Standing (held-numbers m h) (h .outer .0) (k .plan) port → Walking text m h stop next
+        on : Whereabouts (held-numbers m h) (h .outer .0) (k .plan) port → Walking text m h stop next
         on (at-opening o does other) = never cc
         on (passed p e′ other) = next-walking next e (stand-passing (k .held) outermost p)
         on (at-end e′ last) = absurd (more (last ∙ sym (k .ends)))
@@ -139,7 +139,7 @@ pub hunt-none : {text m : List ℕ} {h : Held} {stop port : ℕ} → Walking tex
 hunt-none {text} {m} {h} {stop} {port} k e t held =
     subst (Finds Nothing (h .outer .0)) (one-held (k .held) held) (none (k .standing))
   where
-    none : Standing (held-numbers m h) (h .outer .0) (k .plan) port → Finds Nothing (h .outer .0) (k .plan)
+    none : Whereabouts (held-numbers m h) (h .outer .0) (k .plan) port → Finds Nothing (h .outer .0) (k .plan)
     none (at-opening o does other) = absurd (other (e ∙ k .ends))
     none (passed p shut other) = absurd (other (e ∙ k .ends))
     none (at-end found last) = found

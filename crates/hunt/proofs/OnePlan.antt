@@ -1,6 +1,6 @@
--- The numbers tell the plan: two plans that are linked from the same port on and that the same cells say are one. An item
--- begins with a start, which is an even port, and a sequence ends with a close, which is an odd one; so the links tell where
--- a sequence ends, and the data which item each is.
+-- The numbers tell the plan: two plans are one where they are linked from the same port on and the same cells say them. An item
+-- begins with a start, which is an even port. A sequence ends with a close, which is an odd port. So the links tell where a sequence
+-- ends, and the data tell which item each is.
 use Prim.Native.Nat.{ℕ}
 use mathlib.Core.Path.{_≡_, refl, ap, sym, _∙_}
 use mathlib.Core.List.{List, [], _∷_, _++_, append-assoc, append-cancel-right}

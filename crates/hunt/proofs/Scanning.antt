@@ -1,5 +1,5 @@
--- The walk of `scan` over the items of a sequence. What is ahead are the ports of the items that are not yet passed; a block is
--- passed by its close, so the walk jumps over the ports of its inside.
+-- The walk of `scan` over the items of a sequence. The ports ahead are those of the items that are not yet passed. The walk passes a block
+-- by its close, so it jumps over the ports of its inside.
 use Prim.Native.Nat.{ℕ, _*_, _/_, _≤_, _<_}
 use mathlib.Core.Path.{_≡_, refl, ap, sym, _∙_, subst, subst₂}
 use mathlib.Core.Logic.{_≢_}
@@ -20,7 +20,7 @@ use Rattle.memory.specs.declared.Kind.the-variants.{Operator as OPERATOR, Token
 use Rattle.memory.proofs.Whole.{number-whole}
 use Rattle.memory.proofs.Numbered.{kind-told}
 use Rattle.blocks.proofs.Ways.{ahead, way-ahead, Way}
-use Rattle.hunt.specs.Hunting.{SequenceAt, Scannable, Scanned, last-port, ready-at}
+use Rattle.hunt.specs.Hunting.{SequenceAt, Scannable, Scanned, end-port, ready-at}
 use Rattle.hunt.specs.declared.Spot.{Spot}
 use Rattle.hunt.specs.declared.Hunted.{Hunted}
 use Rattle.hunt.specs.declared.Hunted.the-variants.{Nothing, Ready}
@@ -68,7 +68,7 @@ module _ {text m : List ℕ} {h : Held} {s : ℕ} (can : Scannable text m h s) w
 -- what the test of an item gives: the walk goes on behind it; or the sequence's leftmost ready operator is there
 abbrev pub AfterTest : (text m : List ℕ) → (n first stop last second at : ℕ) → Kind → Hunted → Type 0
 AfterTest text m n first stop last second at kind Nothing =
-    (last′ at′ : ℕ) → last′ ≡ last-port kind at → at′ ≡ link (whole n m first) last′
+    (last′ at′ : ℕ) → last′ ≡ end-port kind at → at′ ≡ link (whole n m first) last′
     → Scanning text m n first stop last′ last second at′
     × (length (ahead (whole n m first) n stop at′) < length (ahead (whole n m first) n stop at))
 AfterTest text m n first stop last second at kind (Ready spot) =
@@ -102,12 +102,12 @@ module _ {text m : List ℕ} {n first stop last second third at : ℕ} (h : Scan
   pub scan-cell : at / 2 ≤ cellLimit
   scan-cell = omega (arith, scan-low, h .lent .few)
 
-  next-low : (kind : Kind) → last-port kind at ≤ start n
+  next-low : (kind : Kind) → end-port kind at ≤ start n
   next-low (OPERATOR o) = omega (arith, scan-low)
   next-low TOKEN = omega (arith, scan-low)
   next-low BLOCK = omega (arith, scan-low)
 
-  pub scan-next : (kind : Kind) (last′ : ℕ) → last′ ≡ last-port kind at → last′ ≤ start n
+  pub scan-next : (kind : Kind) (last′ : ℕ) → last′ ≡ end-port kind at → last′ ≤ start n
   scan-next kind last′ e = rw e (next-low kind)
 
   -- behind an item that ends at the port, with the items p left

@@ -20,7 +20,7 @@ use Rattle.memory.specs.declared.Kind.{Kind}
 use Rattle.memory.specs.declared.Kind.the-variants.{Operator as OPERATOR}
 use Rattle.memory.specs.declared.Port.{Port}
 use Rattle.memory.proofs.Whole.{number-whole}
-use Rattle.hunt.specs.Hunting.{is-block, last-port, opens, ready-at, spot-at}
+use Rattle.hunt.specs.Hunting.{is-block, end-port, block-opens, ready-at, spot-at}
 use Rattle.hunt.specs.declared.Hunted.{Hunted}
 use Rattle.hunt.specs.declared.Hunted.the-variants.{Nothing, Ready}
 
@@ -51,29 +51,29 @@ module _ (o : Operator) {kind : Kind} (is : kind ≡ OPERATOR o) (at last second
   two-there l t s = rw is (simp (is-odd last l, eq-eqb _ _ t, is-odd second s))
 
 -- the last port of an item
-pub block-last : (kind : Kind) (at : ℕ) {cell last : ℕ} → is-block kind ≡ true → cell ≡ at / 2 → last ≡ close cell → last ≡ last-port kind at
+pub block-last : (kind : Kind) (at : ℕ) {cell last : ℕ} → is-block kind ≡ true → cell ≡ at / 2 → last ≡ close cell → last ≡ end-port kind at
 block-last kind at is e l = simp is (l ∙ ap close e)
 
-pub atom-last : (kind : Kind) (at : ℕ) → is-block kind ≡ false → at ≡ last-port kind at
+pub atom-last : (kind : Kind) (at : ℕ) → is-block kind ≡ false → at ≡ end-port kind at
 atom-last kind at is = simp is
 
 module _ (n : ℕ) (m : List ℕ) (first port : ℕ) where
-  pub close-opens : eqb (port % 2) 1 ≡ true → false ≡ opens (whole n m first) port
-  unfolding opens
-  close-opens h = simp h
+  pub close-block-opens : eqb (port % 2) 1 ≡ true → false ≡ block-opens (whole n m first) port
+  unfolding block-opens
+  close-block-opens h = simp h
 
   pub outermost-datum : Lent n m → port ≡ start n → datum (whole n m first) port ≡ block-kind
   outermost-datum lent h =
       let there : 2 * port ≡ length (take (cellNumbers * n) m) + 0 = omega (arith, length-take-le (cellNumbers * n) m (lent .room)) in
       ap (λ k. getD (whole n m first) k 0) there ∙ getD-append-add (take (cellNumbers * n) m) (block-kind ∷ first ∷ []) 0 0
 
-  pub outermost-opens : Lent n m → eqb (port % 2) 1 ≡ false → port ≡ start n → true ≡ opens (whole n m first) port
-  unfolding opens
-  outermost-opens lent even h = simp (even, outermost-datum lent h)
+  pub outermost-block-opens : Lent n m → eqb (port % 2) 1 ≡ false → port ≡ start n → true ≡ block-opens (whole n m first) port
+  unfolding block-opens
+  outermost-block-opens lent even h = simp (even, outermost-datum lent h)
 
-  pub datum-opens : Lent n m → port ≤ start n → eqb (port % 2) 1 ≡ false → port ≢ start n → (k : Kind) → k ≡ kind-of (datum m port) → {r : Bool} → r ≡ is-block k
-      → r ≡ opens (whole n m first) port
-  unfolding opens
-  datum-opens lent low even other k reads tells =
+  pub datum-block-opens : Lent n m → port ≤ start n → eqb (port % 2) 1 ≡ false → port ≢ start n → (k : Kind) → k ≡ kind-of (datum m port) → {r : Bool} → r ≡ is-block k
+      → r ≡ block-opens (whole n m first) port
+  unfolding block-opens
+  datum-block-opens lent low even other k reads tells =
       let there = number-whole n m first lent (2 * port) (omega arith) in
       simp even (tells ∙ ap is-block (reads ∙ ap kind-of there))

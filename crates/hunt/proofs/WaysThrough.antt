@@ -1,5 +1,5 @@
--- Further laws of ways: the way through a sequence, which may be jumped along, and the way through a whole plan, which may be
--- entered at any port of it. The outermost start belongs to a cell that is not lent, so that way counts one cell more.
+-- Further laws of ways. The way through a sequence may be jumped along. The way through a whole plan may be entered at any port of it. That
+-- way counts one cell more, since the outermost start belongs to a cell that is not lent.
 use Prim.Native.Nat.{ℕ, suc, _+_}
 use mathlib.Core.Path.{_≡_, ap, subst}
 use mathlib.Core.Logic.{_≢_}

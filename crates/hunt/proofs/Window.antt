@@ -75,7 +75,7 @@ module _ (s : ℕ) (q : Plan ℕ) (last second third c : ℕ) (p : Plan ℕ) whe
         → second / 2 ≡ l → At o l m c X p q → Answer test
     is-ready {X} e at newer older h =
         let self : start c / 2 ≡ c = omega arith in
-        subst Answer e (h .result, record { front = X; behind = p; before = at; rule = rw (older, newer, self) (h .rule) }, h .leftmost)
+        subst Answer e (h .result, record { front = X; behind = p; before = at; rule = rw (older, newer, self) (h .rule) }, h .found-leftmost)
 
     -- the operators a and b are ready behind two blocks and not behind one
     two-wanted : takes o ≡ 2 → ((m : ℕ) (A : Plan ℕ) → first-block m A (operator c o p) ≡ none)

@@ -1,4 +1,6 @@
--- What a hunt for a ready operator answers: where the operator stands, and which plan its rewrite gives.
+-- What a hunt for a ready operator finds in a plan in the memory: where the operator stands, and which plan its rewrite gives. A scan
+-- answers for one sequence (`Scanned`), a hunt for a plan (`Finds`). What they answer is what document 01's order chooses: `outer` of a
+-- sequence, `next` of a plan. Last come the tests that the code makes at a port.
 use Prim.Native.Nat.{ℕ, _/_, _%_, _≤_}
 use mathlib.Core.Path.{_≡_}
 use mathlib.Core.Bool.{Bool, true, false, cond}
@@ -9,7 +11,7 @@ use Rattle.rules.specs.Frames.{Frame, top, within, plug, Ahead, Rule}
 use Rattle.plan.specs.Plan.{Plan, labels}
 use Rattle.plan.specs.declared.Operator.{Operator}
 use Rattle.rules.specs.Leftmost.{takes}
-use Rattle.rules.specs.Rewriting.{outer, next}
+use Rattle.rules.specs.Rewriting.{leftmost, next}
 use Rattle.memory.specs.Held.{HeldIn, held-numbers}
 use Rattle.memory.specs.Memory.{start, close, datum, ports, Linked, Says, Below, Distinct, last-of}
 use Rattle.memory.specs.Model.{Lent}
@@ -21,7 +23,7 @@ use Rattle.hunt.specs.declared.Spot.{Spot}
 use Rattle.hunt.specs.declared.Hunted.{Hunted}
 use Rattle.hunt.specs.declared.Hunted.the-variants.{Nothing, Ready}
 
--- the cell that a sequence is the inside of: cell number n for the outermost one
+-- the cell that has the sequence inside it: cell number n for the outermost one
 abbrev pub cell-of : (n : ℕ) → Frame ℕ → ℕ
 cell-of n top = n
 cell-of n (within before c out after) = c
@@ -34,7 +36,7 @@ port-behind s X = last-of (start s) (ports X)
 abbrev pub RuleAt : Spot → Operator → (X p q q′ : Plan ℕ) → Type 0
 RuleAt spot o X p q q′ = Rule o (spot .older .0) (spot .newer .0) (spot .operator .0) X p q q′
 
--- in the sequence q inside the cell s, the spot's rewrite gives q′; `before` is the port that links to the first of its blocks
+-- the spot's rewrite makes q′ of the sequence q inside the cell s; `before` is the port that links to the first of the operator's blocks
 pub record Stands (spot : Spot) (s : ℕ) (q q′ : Plan ℕ) : Type 0 where
   pub front : Plan ℕ
   pub behind : Plan ℕ
@@ -56,17 +58,17 @@ pub record Scannable (text m : List ℕ) (h : Held) (s : ℕ) : Type 0 where
 
 -- of one sequence: no operator of it is ready; or the leftmost ready one is at the spot
 abbrev pub Scanned : Hunted → (s : ℕ) → (q : Plan ℕ) → Type 0
-Scanned Nothing s q = outer q ≡ none
-Scanned (Ready spot) s q = (q′ : Plan ℕ) × Stands spot s q q′ × (outer q ≡ some q′)
+Scanned Nothing s q = leftmost q ≡ none
+Scanned (Ready spot) s q = (q′ : Plan ℕ) × Stands spot s q q′ × (leftmost q ≡ some q′)
 
--- of a plan: it is finished; or its next rewrite is that of the spot, in a sequence of it
+-- of a plan: it is finished; or its next rewrite is the one at the spot, in one of its sequences
 abbrev pub Finds : Hunted → (n : ℕ) → (t : Plan ℕ) → Type 0
 Finds Nothing n t = next t ≡ none
 Finds (Ready spot) n t =
     (f : Frame ℕ) × (q : Plan ℕ) × (q′ : Plan ℕ) × (t ≡ plug f q) × Stands spot (cell-of n f) q q′ × (next t ≡ some (plug f q′))
 
--- The sequence inside the cell `from` is the first that may have a ready operator: the plan's next rewrite is one there, or
--- inside it, or behind it.
+-- The sequence inside the cell `from` is the first that may have a ready operator: the plan's next rewrite is in
+-- that sequence, or inside it, or behind it.
 pub record Awaits (n : ℕ) (t : Plan ℕ) (from : ℕ) : Type 0 where
   pub frame : Frame ℕ
   pub sequence : Plan ℕ
@@ -85,13 +87,13 @@ is-block (OPERATOR o) = false
 is-block TOKEN = false
 is-block BLOCK = true
 
--- the last port of the item that starts at a port, which links to what comes behind the item: a block's is its close
-abbrev pub last-port : Kind → (at : ℕ) → ℕ
-last-port kind at = cond (is-block kind) (close (at / 2)) at
+-- The last port of the item that starts at a port. It links to what comes behind the item. A block's last port is its close.
+abbrev pub end-port : Kind → (at : ℕ) → ℕ
+end-port kind at = cond (is-block kind) (close (at / 2)) at
 
--- a block opens at the port, which is no close: at the outermost start too
-unfoldable pub opens : List ℕ → (port : ℕ) → Bool
-opens w port = cond (eqb (port % 2) 1) false (is-block (kind-of (datum w port)))
+-- a block opens at the port: the port is no close, and its datum says a block; the outermost start opens one too
+unfoldable pub block-opens : List ℕ → (port : ℕ) → Bool
+block-opens w port = cond (eqb (port % 2) 1) false (is-block (kind-of (datum w port)))
 
 -- the operator at the port `at`, behind blocks that close at the last two ports
 abbrev pub spot-at : Operator → (at last second before : ℕ) → Spot
@@ -103,8 +105,8 @@ spot-at o at last second before = record {
   operator = record { 0 = at / 2 };
 }
 
--- Whether the item at the port `at` is a ready operator, by the three ports before the items before it: a port that is odd is a
--- block's close, so the item before is a block.
+-- Whether the item at the port `at` is a ready operator. The ports `last`, `second` and `third` are the last ports of the three items
+-- before it, the nearest first. An odd port is a block's close, so its item is a block.
 abbrev pub ready-at : Kind → (at last second third : ℕ) → Hunted
 ready-at (OPERATOR o) at last second third =
     cond (eqb (last % 2) 1)

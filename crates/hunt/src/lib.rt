@@ -1,6 +1,6 @@
-// The hunt for the next ready operator of a plan in the memory. The order of document 01 looks into the sequences as their `[`
-// come, in each for its leftmost ready operator: so one loop goes along the chain over the ports where a block opens, and one
-// scan goes over a sequence's own items, past the insides of its blocks by their closes. No recursion and no stack.
+// Finds the next ready operator of a plan in the memory, in document 01's order, from a given sequence on. That order looks into the
+// sequences as their `[` come, and in each for its leftmost ready operator. So one loop goes along the chain over the ports where a block
+// opens. One scan goes over a sequence's own items, and passes the inside of each block by its close. There is no recursion and no stack.
 ghost use mathlib.Core.Path.{_≡_};
 ghost use Prim.Native.Nat.{ℕ, _/_, _≤_};
 ghost use Rattle.kinds.specs.Limits.{cellLimit};
@@ -8,7 +8,7 @@ ghost use Rattle.plan.specs.Plan.{Plan};
 ghost use Rattle.memory.specs.Held.{HeldIn, held-numbers};
 ghost use Rattle.memory.specs.Memory.{start, whole};
 ghost use Rattle.memory.specs.Model.{Lent};
-ghost use Rattle.hunt.specs.Hunting.{Finds, Huntable, Scannable, Scanned, SequenceAt, is-block, last-port, opens, ready-at};
+ghost use Rattle.hunt.specs.Hunting.{Finds, Huntable, Scannable, Scanned, SequenceAt, is-block, end-port, block-opens, ready-at};
 use kinds::Cell;
 use memory::Held;
 use memory::Kind;
@@ -80,10 +80,10 @@ fn is_block(kind: Kind) -> bool
     }
 }
 
-// The last port of the item that starts at a port, which links to what comes behind the item: a block's is its close.
-fn last_port(kind: Kind, at: Port) -> Port
+// The last port of the item that starts at a port. It links to what comes behind the item. A block's last port is its close.
+fn end_port(kind: Kind, at: Port) -> Port
     requires { ⌜ at .0 / 2 ≤ cellLimit ⌝ }
-    ensures { λ r. ⌜ r .0 ≡ last-port kind (at .0) ⌝ }
+    ensures { λ r. ⌜ r .0 ≡ end-port kind (at .0) ⌝ }
 {
     if is_block(kind) {
         return Port::close(at.cell());
@@ -111,16 +111,16 @@ pub fn scan(text: &[u8], memory: &[u32], held: Held, sequence: Cell) -> Hunted
         }
         third = second;
         second = last;
-        last = last_port(kind, at);
+        last = end_port(kind, at);
         at = link_of(memory, outer, first, last);
     }
     Hunted::Nothing
 }
 
 // Whether a block opens at a port; the outermost sequence opens at the start of the cell that is not lent.
-fn opens(memory: &[u32], outer: Cell, first: Port, port: Port) -> bool
+fn block_opens(memory: &[u32], outer: Cell, first: Port, port: Port) -> bool
     requires { ⌜ Lent (outer .0) (now memory) × (port .0 ≤ start (outer .0)) ⌝ }
-    ensures { λ r. ⌜ r ≡ opens (whole (outer .0) (now (memory .entry)) (first .0)) (port .0) ⌝ }
+    ensures { λ r. ⌜ r ≡ block-opens (whole (outer .0) (now (memory .entry)) (first .0)) (port .0) ⌝ }
 {
     if port.closes() {
         return false;
@@ -132,7 +132,7 @@ fn opens(memory: &[u32], outer: Cell, first: Port, port: Port) -> bool
     is_block(kind_at(memory, port))
 }
 
-// The next ready operator of the plan, from the sequence inside a cell on: nothing before it is ready.
+// The next ready operator of the plan, from the sequence inside a cell on. Nothing before that sequence is ready.
 pub fn hunt(text: &[u8], memory: &[u32], held: Held, from: Cell) -> Hunted
     requires { ⌜ Huntable (now text) (now memory) held (from .0) ⌝ }
     ensures { λ r. ⌜ ((t : Plan ℕ) → HeldIn (now (text .entry)) (now (memory .entry)) held t → Finds r (held .outer .0) t) ⌝ }
@@ -142,7 +142,7 @@ pub fn hunt(text: &[u8], memory: &[u32], held: Held, from: Cell) -> Hunted
     let end = Port::close(outer);
     let mut port = Port::start(from);
     while port.0 != end.0 {
-        if opens(memory, outer, first, port) {
+        if block_opens(memory, outer, first, port) {
             match scan(text, memory, held, port.cell()) {
                 Hunted::Ready(spot) => return Hunted::Ready(spot),
                 Hunted::Nothing => {}

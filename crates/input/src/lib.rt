@@ -1,10 +1,10 @@
-// Standard input, read so that an error is never taken for its end: what stood before a read that failed is not the input.
+// Reads standard input, so that an error is never taken for its end. What stood before a read that failed is not the input.
 ghost use lib.ListN.{length};
 ghost use Rattle.input.specs.Within.{Within};
 use libc::EINTR;
 use libc::STDIN_FILENO;
 
-// How many bytes of the input stand in the buffer: all of them, where they do not fill it. Or a read failed.
+// How many bytes of the input stand in the buffer. Where they do not fill it, they are all of the input. Or a read failed.
 pub enum Input {
     Read(usize),
     Failed,
@@ -13,7 +13,7 @@ pub enum Input {
 // How often reads may be interrupted; past it the input counts as failed, so that reading ends.
 const PATIENCE: u32 = 1_000_000;
 
-// Reads until the buffer is full, the input ends or a read fails. One that was interrupted goes on.
+// Reads until the buffer is full, the input ends or a read fails. After a read that was interrupted it goes on.
 pub fn read_whole(buffer: &mut [u8]) -> Input
     ensures { λ r. ⌜ Within r (length (now (buffer .exit))) ⌝ }
 {

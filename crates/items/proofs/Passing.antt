@@ -1,4 +1,4 @@
--- Marks are passed over: where one begins the text shows the same pieces behind it, and where it ends is told by its bytes.
+-- Marks are passed over. Where a mark begins, the text shows the same pieces as behind it. The mark's bytes tell where it ends.
 use Prim.Native.Nat.{ℕ, suc, _+_, _-_, _≤_, _<_}
 use mathlib.Core.Path.{_≡_, refl, ap, sym, _∙_, subst}
 use mathlib.Core.Logic.{_≢_}

@@ -1,4 +1,4 @@
--- What the class of a byte, where no mark begins, tells of the pieces that the text shows from there on, and each answer of the walk by it.
+-- What the class of a byte tells, where no mark begins: of the pieces that the text shows from there on, and of each answer of the walk.
 use Prim.Native.Nat.{ℕ, _+_, _-_, _≤_}
 use mathlib.Core.Path.{_≡_, refl, ap, sym, _∙_, subst}
 use mathlib.Core.Bool.{false}

@@ -1,4 +1,4 @@
--- A turn of the loop that writes a text's pieces in a row: what stands in the output and what the pieces to come print are the whole.
+-- A turn of the loop that writes a text's pieces in a row: what stands in the output and what the pieces to come print make up the whole.
 use Prim.Native.Nat.{ℕ, _+_, _≤_}
 use mathlib.Core.Path.{_≡_, ap, sym, _∙_, subst}
 use mathlib.Core.List.{List, [], _++_, append-assoc, append-nil}

@@ -1,5 +1,5 @@
--- What every loop over a text's pieces needs of a step of the walk, said once: the piece by what a match found the answer to be, the
--- pieces that come behind it, and that less of the text is left.
+-- What every loop over a text's pieces needs of a step of the walk, said once: the piece that a match on the answer found, the pieces that
+-- come behind it, and that less of the text is left.
 use Prim.Native.Nat.{ℕ, _-_, _<_}
 use mathlib.Core.Path.{_≡_, subst}
 use mathlib.Core.List.{List, []}

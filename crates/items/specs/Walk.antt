@@ -1,5 +1,5 @@
--- What a step of the walk says: of the pieces that the text shows from the cursor on, the first with its place, and where the others
--- begin; or that there is none.
+-- What a step of the walk says. The text shows pieces from the cursor on. The step tells the first of them with its place, and where
+-- the others begin; or that there is none.
 use Prim.Native.Nat.{ℕ, _+_, _<_, _≤_}
 use mathlib.Core.Path.{_≡_}
 use mathlib.Core.Bool.{false}
@@ -57,7 +57,7 @@ pub record TokenFrom (text : List ℕ) (at : ℕ) : Type 0 where
   pub t : List ℕ
   pub found : Found tokenLimit (drop (at + 1) text) t
 
--- the mark that has the bytes m behind its first stands at the place
+-- a mark stands at the place, and m are its bytes behind the first one
 pub record MarkAt (text : List ℕ) (at : ℕ) (m : List ℕ) : Type 0 where
   pub rest : List ℕ
   pub splits : drop (at + 1) text ≡ m ++ rest
@@ -69,7 +69,7 @@ pub record MarkFrom (text : List ℕ) (at : ℕ) : Type 0 where
   pub m : List ℕ
   pub found : MarkAt text at m
 
--- the text shows pieces from the place on, where no mark begins
+-- the text shows pieces from the place on, and no mark begins there
 pub record PieceFrom (text : List ℕ) (at : ℕ) : Type 0 where
   pub ahead : ShowsAhead text at
   pub inside : at < length text

@@ -1,5 +1,6 @@
-// One walk over an accepted text, piece by piece, for all that read such a text. Marks, which mean nothing (SP, LF and annotations), are
-// passed over here and nowhere else; no fault is looked for, since there is none.
+// The one walk over an accepted text, piece by piece, past its marks; and writing the text without them. Marks (SP, LF and annotations)
+// mean nothing. All code that goes over an accepted text uses this walk, so its marks are passed over here and nowhere else. The walk looks
+// for no fault, since there is none.
 ghost use mathlib.Core.Path.{_≡_};
 ghost use Prim.Native.Nat.{ℕ, suc, _+_, _<_};
 ghost use mathlib.Core.List.{List};
@@ -33,7 +34,7 @@ pub enum NextPiece {
     },
 }
 
-// The place of the `}` that ends a token, from its first byte behind the `{` on.
+// The place of the `}` that ends a token. `from` is the place right behind the token's `{`.
 fn token_end(text: &[u8], from: usize) -> usize
     requires { ⌜ ((t : List ℕ) × Found tokenLimit (drop from (now text)) t) ⌝ }
     ensures { λ r. ⌜ ((t : List ℕ) → Found tokenLimit (drop from (now (text .entry))) t → r ≡ from + length t) ⌝ }
@@ -81,7 +82,7 @@ fn mark_end(text: &[u8], at: usize) -> usize
     at + 1
 }
 
-// The piece that begins at a place of an accepted text, where no mark does.
+// The piece that begins at a place of an accepted text, where no mark begins.
 fn piece_at(text: &[u8], at: usize) -> NextPiece
     requires { ⌜ PieceFrom (now text) at ⌝ }
     ensures { λ r. ⌜ ((ps : List (PlanPiece ℕ)) → Shows tokenLimit at (drop at (now (text .entry))) ps → Walked (now (text .entry)) at r ps) ⌝ }

@@ -1,4 +1,5 @@
-// The kinds of number that must not be mixed up, each with the limit that belongs to it.
+// `Place`, `Cell` and `Token`: the kinds of number that must not be mixed up, each with its limit, written once; also bytes put into an
+// output, and laws of tests.
 ghost use mathlib.Core.Path.{_≡_};
 ghost use Prim.Native.Nat.{_≤_};
 ghost use Rattle.kinds.specs.Limits.{tokenLimit, cellLimit, cellNumbers, textLimit};

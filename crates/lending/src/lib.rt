@@ -1,11 +1,11 @@
-// What a caller lends to a service: filled with other values before the call, and looked over after it. With these a
-// program says of each call whether every number of the memory is 0 and every byte past the printed text as it was.
+// What a caller lends to a service, filled with other values before the call and looked over after it. With these a program says of each
+// call whether every number of the memory is 0, and whether every byte past the printed text is as it was.
 
 // What a memory is filled with. Any number but 0 would do.
 const NUMBER: u32 = 0xABAB_ABAB;
 
-// What an output is filled with. No printed text has this byte, since UTF-8 has it nowhere, so a byte that was left is
-// never taken for one that was written.
+// What an output is filled with. No printed text has this byte, since UTF-8 has it nowhere. So a byte that was left
+// is never taken for one that was written.
 const BYTE: u8 = 255;
 
 pub fn fill_memory(memory: &mut [u32]) {

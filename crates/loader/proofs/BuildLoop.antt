@@ -15,11 +15,11 @@ use Rattle.pieces.specs.declared.Piece.{Piece as CodePiece}
 use Rattle.items.specs.Walk.{ShowsAhead, Passed}
 use Rattle.items.proofs.Walking.{passed-ahead}
 use Rattle.memory.specs.Held.{HeldAlike}
-use Rattle.memory.specs.Model.{Aside, Finished, Fresh, Lent, PieceReady, Buildable, Stepped, model, with-piece}
+use Rattle.memory.specs.Model.{Aside, BuildEnded, Fresh, Lent, PieceReady, Buildable, Stepped, model, with-piece}
 use Rattle.memory.specs.declared.Build.{Build}
 use Rattle.memory.specs.declared.Held.{Held}
 use Rattle.memory.proofs.Beginning.{fresh-building}
-use Rattle.memory.proofs.Building.{finish}
+use Rattle.memory.proofs.Building.{ended}
 use Rattle.memory.proofs.Placing.{Placed, Put, place, place-end, place-first}
 use Rattle.memory.proofs.Steps.{building-ready, still-lent}
 use Rattle.memory.proofs.Whole.{aside-on, aside-same}
@@ -75,12 +75,12 @@ module _ {text m₀ : List ℕ} {b₀ : Build} {m : List ℕ} {b : Build} {at : 
         }
 
   -- behind the last piece
-  module _ {m′ : List ℕ} {h : Held} (f : Finished m b m′ h) where
+  module _ {m′ : List ℕ} {h : Held} (f : BuildEnded m b m′ h) where
     pub onward-end : o .ahead .come ≡ [] → (p : Plan ℕ) → read tokenLimit (b .outer .0) text ≡ ACCEPTED p → HeldAlike text m′ h p
     onward-end none p accepted =
         let held = place-end (o .plan) (subst (Placed text (b .outer .0) (b .outer .0) [] (o .plan) (model m b)) none (o .placed)) in
         let same : o .plan ≡ p = accepted-injective (sym (o .accepted) ∙ accepted) in
-        record { plan = held .0; alike = held .1 ∙ ap bare same; held = rw (f .outer, f .free, f .ends) (finish (held .2)) }
+        record { plan = held .0; alike = held .1 ∙ ap bare same; held = rw (f .outer, f .free, f .ends) (ended (held .2)) }
 
     pub onward-aside : {outer : Cell} → b₀ .outer ≡ outer → Aside (outer .0) m₀ m′
     onward-aside e =

@@ -1,4 +1,4 @@
-// Builds the plan of an accepted text in the memory: each piece that the walk over the text gives is put behind the last.
+// Builds the plan of an accepted text in the memory. The walk over the text gives piece after piece, and each is put behind the last.
 ghost use mathlib.Core.Path.{_≡_};
 ghost use Prim.Native.Nat.{ℕ, _≤_};
 ghost use lib.ListN.{length};
@@ -7,7 +7,7 @@ ghost use Rattle.plan.specs.Plan.{Plan};
 ghost use Rattle.plan.specs.Reading.{ACCEPTED, read};
 ghost use Rattle.memory.specs.Held.{HeldAlike};
 ghost use Rattle.memory.specs.Model.{Lent, Aside};
-use builder::finish;
+use builder::end_plan;
 use builder::fresh;
 use builder::put_piece;
 use items::Cursor;
@@ -27,7 +27,7 @@ pub fn build_plan(text: &[u8], memory: &mut [u32], outer: Cell) -> Held
     let mut cursor = Cursor { at: 0 };
     loop {
         match next(text, cursor) {
-            NextPiece::End => return finish(memory, build),
+            NextPiece::End => return end_plan(memory, build),
             NextPiece::Piece { piece, at, rest } => {
                 build = put_piece(memory, build, piece);
                 cursor = rest;

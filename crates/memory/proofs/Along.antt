@@ -1,5 +1,5 @@
--- The ports along a chain from one port on up to a stop. They are a function of the port where a walk stands, with as many steps as
--- all cells have ports: so a walk needs no plan to tell where it is, and it ends.
+-- The ports along a chain, from one port on up to a stop. They are a function of the port where a walk stands, with as many steps as all
+-- cells have ports. So a walk needs no plan to tell where it is, and it ends.
 use Prim.Native.Nat.{ℕ, zero, suc, _≤_}
 use mathlib.Core.Path.{_≡_, refl, sym}
 use mathlib.Core.Bool.{cond}

@@ -1,5 +1,5 @@
--- What the builder's steps leave as it is: every number of cell number n and of the cells in use elsewhere, but the link of
--- the root's start. So a plan in those cells is said and linked as before, whatever is built beside it.
+-- What the builder's steps leave as it is: every number of cell number n and of the cells in use elsewhere, except the link of the root's
+-- start. So a plan in those cells is said and linked as before, whatever is built beside it.
 use Prim.Native.Nat.{ℕ, _+_, _*_, _/_, _<_}
 use mathlib.Core.Path.{_≡_, refl, sym, _∙_, subst, subst₂}
 use mathlib.Core.Logic.{_≢_}

@@ -1,4 +1,4 @@
--- A block of a plan: its ports and its labels are a run of the plan's, its contents are said with the plan, and its cell is
+-- A block of a plan: its ports and its labels stand in a row among the plan's, its contents are said with the plan, and its cell is
 -- one of the plan's. Whoever walks over a block or copies one has its place in the plan from here.
 use Prim.Native.Nat.{ℕ}
 use mathlib.Core.Path.{_≡_, refl, sym, _∙_, subst}
@@ -9,7 +9,7 @@ use Rattle.memory.specs.Held.{BlockIn}
 use Rattle.memory.specs.Memory.{start, close, ports, Says, Absent}
 use Rattle.memory.proofs.Lists.{absent-split}
 
--- the run us stands somewhere in the list
+-- us stands in a row somewhere in the list
 record Stretch (us l : List ℕ) : Type 0 where
   before : List ℕ
   behind : List ℕ

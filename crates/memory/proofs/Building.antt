@@ -364,11 +364,11 @@ close-block {text} {n} {w} {root} {others} {tail} {free = free} {c = c} {before 
     subst (λ o. Building text n (set w (2 * tail + 1) (close o)) root others (close o) (link w (close o)) free out (before then block c here end)) (b .at-open) (close-cell b)
 
 -- the end of the sequence: the last port links to the root's own close
-pub finish-in : {text : List ℕ} {n : ℕ} {w : List ℕ} {root : ℕ} {others : List ℕ} {tail opened free : ℕ} {here : Plan ℕ}
+pub ended-in : {text : List ℕ} {n : ℕ} {w : List ℕ} {root : ℕ} {others : List ℕ} {tail opened free : ℕ} {here : Plan ℕ}
     → Building text n w root others tail opened free outermost here → HoldsIn text n (set w (2 * tail + 1) (close root)) root others free here
 unfolding ports-so-far seen
-finish-in {root = root} b = let on = link-tail b (close root) in record { chain = on .chain; says = on .says; shared = on .shared }
+ended-in {root = root} b = let on = link-tail b (close root) in record { chain = on .chain; says = on .says; shared = on .shared }
 
-pub finish : {text : List ℕ} {n : ℕ} {w : List ℕ} {tail opened free : ℕ} {here : Plan ℕ}
+pub ended : {text : List ℕ} {n : ℕ} {w : List ℕ} {tail opened free : ℕ} {here : Plan ℕ}
     → Building text n w n [] tail opened free outermost here → Holds text n (set w (2 * tail + 1) (close n)) free here
-finish b = let h = finish-in b in record { chain = h .chain; says = h .says; shared = h .shared }
+ended b = let h = ended-in b in record { chain = h .chain; says = h .says; shared = h .shared }

@@ -1,5 +1,5 @@
--- A cell that leaves the plan goes to the front of the free cells, and the order of the cells in use does not matter: both
--- by the one law that all n cells, each once, stay so where two neighbouring runs of them change places.
+-- A cell that leaves the plan goes to the front of the free cells. The order of the cells in use does not matter. Both follow from one law:
+-- where two neighbouring rows of cells change places, these are still all n cells, each once.
 use Prim.Native.Nat.{ℕ, _+_, _*_}
 use mathlib.Core.Path.{_≡_, refl, sym, _∙_, subst}
 use mathlib.Core.List.{List, [], _∷_, _++_, append-assoc}
@@ -9,7 +9,7 @@ use lib.Seq.{getD-set-same}
 use Rattle.memory.specs.Memory.{start, Below, Absent, Distinct, Shared}
 use Rattle.memory.proofs.Lists.{absent-join, absent-split, below-join, below-split, distinct-join, distinct-split, not-before, not-behind, free-beside}
 
--- two neighbouring runs change places
+-- two neighbouring rows change places
 
 pub absent-swap : (c : ℕ) (ys zs us : List ℕ) → Absent c (ys ++ (zs ++ us)) → Absent c (zs ++ (ys ++ us))
 absent-swap c ys zs us h =

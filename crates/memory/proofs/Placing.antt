@@ -7,8 +7,8 @@ use native.Mathlib.Omega.{arith}
 use lib.ListN.{length, length-append}
 use Rattle.plan.specs.Plan.{Plan, end, operator, token, block, _then_, cells, bare}
 use Rattle.plan.specs.Reading.{Around, outermost, inside}
-use Rattle.plan.specs.Pieces.{Piece, OP, TOKEN, BEGIN, END, pieces, starts, relabelled, bares, so-far, seen, Closes}
-use Rattle.plan.proofs.Pieces.{cells-pieces, closes-pieces, length-relabelled, pieces-injective, pieces-relabel, relabelled-append, seen-pieces, so-far-close, so-far-then, starts-append}
+use Rattle.plan.specs.Pieces.{Piece, OP, TOKEN, BEGIN, END, pieces, piece-labels, relabelled, bares, so-far, seen, Closes}
+use Rattle.plan.proofs.Pieces.{cells-pieces, closes-pieces, length-relabelled, pieces-injective, pieces-relabel, relabelled-append, seen-pieces, so-far-close, so-far-then, piece-labels-append}
 use Rattle.plan.proofs.Plans.{cells-relabel}
 use Rattle.plan.proofs.Reached.{depth}
 use Rattle.pieces.specs.Written.{Is, is-operator, is-token, is-open, is-close}
@@ -35,13 +35,13 @@ further gone come p x y grown alike all =
     ap (λ ps. bares ps ++ bares come) grown ∙ ap (_++ bares come) (relabelled-append _ gone (y ∷ [])) ∙ append-assoc (bares gone) (bares (y ∷ [])) (bares come)
     ∙ ap (λ q. bares gone ++ (q ++ bares come)) alike ∙ ap (bares gone ++_) (sym (relabelled-append _ (x ∷ []) come)) ∙ all
 
-counted : (gone come : List (Piece ℕ)) (p : Plan ℕ) → All gone come p → length (starts gone) + length (starts come) ≡ cells p
+counted : (gone come : List (Piece ℕ)) (p : Plan ℕ) → All gone come p → length (piece-labels gone) + length (piece-labels come) ≡ cells p
 counted gone come p all =
     omega (
       arith,
-      ap (λ ps. length (starts ps)) all,
-      ap length (starts-append (bares gone) (bares come)),
-      length-append (starts (bares gone)) (starts (bares come)),
+      ap (λ ps. length (piece-labels ps)) all,
+      ap length (piece-labels-append (bares gone) (bares come)),
+      length-append (piece-labels (bares gone)) (piece-labels (bares come)),
       length-relabelled (λ l. tt {0}) gone,
       length-relabelled (λ l. tt {0}) come,
       cells-pieces (bare p),
@@ -57,13 +57,13 @@ pub record Put (text : List ℕ) (n root : ℕ) (others : List ℕ) (p : Plan �
 module _ {text : List ℕ} {n root : ℕ} {others : List ℕ} (p : Plan ℕ) {s : Model} where
   -- a piece that begins an item finds a free cell
   room : (out : Around) (here : Plan ℕ) (come : List (Piece ℕ)) → Built text n s root others out here → All (so-far out here) come p
-      → length others + cells p ≤ n → 0 < length (starts come) → s .free < n
+      → length others + cells p ≤ n → 0 < length (piece-labels come) → s .free < n
   room out here come b all fits begins =
       has-room b (omega (arith, counted (so-far out here) come p all, ap length (seen-pieces out here), length-append others (seen out here)))
 
   place-piece : {k : CodePiece} {x : Piece ℕ} (come : List (Piece ℕ)) → length others + cells p ≤ n → Is text k x → (out : Around) (here : Plan ℕ)
       → Built text n s root others out here → Closes (depth out) (x ∷ come) → All (so-far out here) (x ∷ come) p → Put text n root others p s k come
-  unfolding so-far pieces starts relabelled
+  unfolding so-far pieces piece-labels relabelled
   place-piece come fits (is-operator {l} {o}) out here b shuts all =
       let free = room out here (OP l o ∷ come) b all fits (omega arith) in
       let more = further (so-far out here) come p (OP l o) (OP (s .free) o) (so-far-then out here (operator (s .free) o end)) refl all in

@@ -1,5 +1,5 @@
--- Laws of `Shared`: the cells in use and the free ones. Whether a cell is free, the first free cell comes into use, and a
--- store that is no link of a free cell leaves the free cells as they are.
+-- Laws of `Shared`, the cells in use and the free ones: whether a cell is free, that the first free cell comes into use, and that a store
+-- that is no link of a free cell leaves the free cells as they are.
 use Prim.Native.Nat.{ℕ, _+_, _*_, _/_, _<_}
 use mathlib.Core.Path.{_≡_, refl, ap, sym, _∙_, subst}
 use mathlib.Core.List.{List, [], _∷_, _++_, append-assoc}

@@ -1,5 +1,5 @@
--- What is kept beside the numbers of a plan that is whole: the cell that is not lent, the first port, the first free cell. And
--- where in such a plan a block stands.
+-- What is kept beside the numbers of a plan that is whole: the cell that is not lent, the first port, the first free cell.
+-- And where a block stands in such a plan.
 use Prim.Native.Nat.{ℕ}
 use mathlib.Core.Path.{_≡_}
 use mathlib.Core.Logic.{_⊎_}
@@ -16,7 +16,7 @@ held-numbers m h = whole (h .outer .0) m (h .first .0)
 abbrev pub HeldIn : (text m : List ℕ) → Held → Plan ℕ → Type 0
 HeldIn text m h t = Holds text (h .outer .0) (held-numbers m h) (h .free .0) t
 
--- the memory holds the plan, but for its cells
+-- the memory holds the plan, except for its cells
 pub record HeldAlike (text m : List ℕ) (h : Held) (p : Plan ℕ) : Type 0 where
   pub plan : Plan ℕ
   pub alike : bare plan ≡ bare p

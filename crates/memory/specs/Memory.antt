@@ -1,8 +1,8 @@
--- What it means that lent numbers hold a plan. A cell has four numbers and two ports: its start, which is an operator, a
--- token or a block's `[`, and, for a block, its `]`. Each port has a datum and a link, and the link names the port that comes
--- next in the printed text: so a whole plan is one chain of ports, and the last item of a block links to that block's own `]`.
--- The outermost sequence is the inside of a cell that is not lent, number n: its start links to the first port, and its
--- close is the end mark.
+-- What it means that lent numbers hold a plan. A cell has four numbers and two ports. Its start is an operator, a token or a block's `[`.
+-- Its close is, for a block, the `]`. Each port has a datum and a link. The link names the port that comes next in the printed text. So a
+-- whole plan is one chain of ports, and the last item of a block links to that block's own `]`.
+-- The outermost sequence is the inside of a cell that is not lent, number n. Its start links to the
+-- first port, and its close is the end mark.
 use Prim.Native.Nat.{ℕ, _+_, _*_, _<_}
 use mathlib.Core.Path.{_≡_}
 use mathlib.Core.Logic.{_≢_, _⊎_}
@@ -121,8 +121,8 @@ abbrev pub last-of : ℕ → List ℕ → ℕ
 last-of x [] = x
 last-of x (y ∷ ys) = last-of y ys
 
--- The sequence that is built is the inside of the cell `root`: cell number n, or one of the cells `others`, which are in use
--- elsewhere and not a part of it.
+-- The sequence that is built is the inside of the cell `root`: cell number n, or one of the cells `others`. These are in
+-- use elsewhere and no part of the sequence.
 pub record Building (text : List ℕ) (n : ℕ) (w : List ℕ) (root : ℕ) (others : List ℕ) (tail opened free : ℕ) (out : Around) (here : Plan ℕ) : Type 0 where
   pub rooted : (root ≡ n) ⊎ (¬ Absent root others)
   pub chain : Linked w (start root ∷ ports-so-far out here)

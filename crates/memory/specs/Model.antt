@@ -1,5 +1,5 @@
--- The builder's steps on plain values: the whole of the numbers and what is kept beside them. The code's functions promise
--- exactly these; that each keeps what `Building` says is proved of them alone.
+-- The builder's steps on plain values: the whole of the numbers and what is kept beside them. The code's functions promise exactly these
+-- steps. That each step keeps what `Building` says is proved of the steps alone.
 use Prim.Native.Nat.{ℕ, _+_, _*_, _≤_, _<_}
 use mathlib.Core.Path.{_≡_}
 use mathlib.Core.List.{List}
@@ -45,7 +45,7 @@ pub record Buildable (m : List ℕ) (b : Build) : Type 0 where
   pub tail : b .tail .0 ≤ start (b .outer .0)
   pub opened : b .opened .0 ≤ b .outer .0
 
--- one step: what the model is after it, with the same cells, in a memory that is as it was past them
+-- one step: the model is s after it, the cells are the same, and past them the memory is as it was
 pub record Stepped (m : List ℕ) (b : Build) (m′ : List ℕ) (b′ : Build) (s : Model) : Type 0 where
   pub steps : model m′ b′ ≡ s
   pub outer : b′ .outer ≡ b .outer
@@ -64,7 +64,7 @@ pub record Fresh (bound : Cell) (m : List ℕ) (b : Build) : Type 0 where
 abbrev pub next-free : Model → ℕ
 next-free s = link (s .numbers) (start (s .free))
 
--- the first free cell at the tail, once its numbers are written: which block is open then, and which cell is free
+-- The tail links to the first free cell, once its numbers are written. Then `opened` is the open block, and `next` the first free cell.
 abbrev pub with-cell : Model → (written : List ℕ) → (opened next : ℕ) → Model
 with-cell s written opened next =
     record { numbers = set written (2 * s .tail + 1) (start (s .free)); tail = start (s .free); opened = opened; free = next }
@@ -103,7 +103,7 @@ abbrev pub with-end : (n : ℕ) → Model → List ℕ
 with-end n s = set (s .numbers) (2 * s .tail + 1) (close n)
 
 -- the end: the whole plan with what is kept beside it
-pub record Finished (m : List ℕ) (b : Build) (m′ : List ℕ) (h : Held) : Type 0 where
+pub record BuildEnded (m : List ℕ) (b : Build) (m′ : List ℕ) (h : Held) : Type 0 where
   pub ends : whole (b .outer .0) m′ (h .first .0) ≡ with-end (b .outer .0) (model m b)
   pub outer : h .outer ≡ b .outer
   pub free : h .free ≡ b .free
@@ -116,7 +116,7 @@ with-piece s (Token t) = with-token s (t .at .0) (t .len)
 with-piece s Open = with-block s
 with-piece s Close = with-close s
 
--- a piece finds a free cell, or, to close, an open block
+-- a piece finds a free cell; a `]` needs none, and finds an open block
 abbrev pub FindsCell : (free opened n : ℕ) → Piece → Type 0
 FindsCell free opened n (Operator o) = free < n
 FindsCell free opened n (Token t) = free < n
@@ -127,7 +127,7 @@ pub record PieceReady (m : List ℕ) (b : Build) (k : Piece) : Type 0 where
   pub ready : Buildable m b
   pub finds : FindsCell (b .free .0) (b .opened .0) (b .outer .0) k
 
--- a block begun in the first free cell, that no port links to: what is put then is its inside
+-- A block is begun in the first free cell, and no port links to it. What is put from then on is its inside.
 pub record Apart (m : List ℕ) (h : Held) (m′ : List ℕ) (b : Build) : Type 0 where
   pub outer : b .outer ≡ h .outer
   pub first : b .first ≡ h .first

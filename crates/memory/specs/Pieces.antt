@@ -1,5 +1,5 @@
--- The piece that a port shows by its own numbers. And when the printed text of a plan in the memory has room: the one condition that
--- the walks along its chain ask for.
+-- The piece that a port shows by its own numbers. And the one condition that the walks along a plan's
+-- chain ask for: its printed text has room.
 use Prim.Native.Nat.{ℕ, _+_, _*_, _%_, _≤_}
 use mathlib.Core.Bool.{cond}
 use mathlib.Core.List.{List, [], _∷_}

@@ -1,5 +1,6 @@
-// The work memory: a plan in lent numbers, four a cell; what a number means stands in specs/Memory.antt. A link is read and
-// stored as the `Port` that it leads to or as the `Cell` that it keeps, and a token as a `Token` with its `Place` in the text.
+// The work memory, a plan in lent numbers, four for each cell: what it means that the memory holds a plan, and its laws; links, printing
+// along the chain, clearing. specs/Memory.antt says what a number means. A link is read and stored as the `Port` that it leads to or as the
+// `Cell` that it keeps, and a token as a `Token` with its `Place` in the text.
 ghost use mathlib.Core.Path.{_≡_};
 ghost use Prim.Native.Nat.{ℕ, _+_, _*_, _/_, _%_, _<_, _≤_};
 ghost use lib.Dec.{eqb};
@@ -83,8 +84,8 @@ impl Kind {
     }
 }
 
-// A plan that is being built: the cell that is not lent, whose inside is the outermost sequence, and the first port of that;
-// the last port so far; the innermost open block; the first free cell.
+// A plan that is being built: the cell that is not lent, whose inside is the outermost sequence; the first port of that sequence; the last
+// port so far; the innermost open block; the first free cell.
 pub struct Build {
     pub outer: Cell,
     pub first: Port,
@@ -149,7 +150,7 @@ pub fn link_of(memory: &[u32], outer: Cell, first: Port, port: Port) -> Port
     Port(link_number(memory, outer, port))
 }
 
-// Lets a port link to another, and answers the first port then.
+// Lets a port link to another, and answers the first port afterwards.
 pub fn set_link(memory: &mut [u32], outer: Cell, first: Port, port: Port, to: Port) -> Port
     requires { ⌜ Lent (outer .0) (now memory) × (port .0 ≤ start (outer .0)) ⌝ }
     ensures linked { λ r. ⌜ whole (outer .0) (now (memory .exit)) (r .0) ≡ set (whole (outer .0) (now (memory .entry)) (first .0)) (2 * port .0 + 1) (to .0) ⌝ }
@@ -162,8 +163,8 @@ pub fn set_link(memory: &mut [u32], outer: Cell, first: Port, port: Port, to: Po
     first
 }
 
-// The cell that a port keeps where its link leads nowhere: the start of a free cell keeps the next free one, the close of an
-// open block the cell around it.
+// The cell that a port keeps where its link leads nowhere. The start of a free cell keeps the next free one. The close
+// of an open block keeps the cell around it.
 pub fn kept_cell(memory: &[u32], outer: Cell, port: Port) -> Cell
     requires { ⌜ Lent (outer .0) (now memory) × (port .0 < start (outer .0)) ⌝ }
     ensures { λ r. ⌜ ((first : ℕ) → r .0 ≡ link (whole (outer .0) (now (memory .entry)) first) (port .0)) ⌝ }

@@ -32,7 +32,7 @@ pub fn piece_at(memory: &[u32], port: Port) -> Piece
     }
 }
 
-// How long the printed text is. The text itself is not read: it is what the contract tells the plan by.
+// How long the printed text is. The text itself is not read. It is there for the contract, which tells the plan by it.
 pub fn printed_length(text: &[u8], memory: &[u32], held: Held) -> u32
     requires { ⌜ PrintsWithin 0 printLimit (now text) (now memory) held ⌝ }
     ensures { λ r. ⌜ ((t : Plan ℕ) → HeldIn (now (text .entry)) (now (memory .entry)) held t → r ≡ length (print t)) ⌝ }

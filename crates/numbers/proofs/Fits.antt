@@ -1,5 +1,5 @@
--- A printed text that is told is never longer than the output that was lent: a longer one is refused. So for every family whose refusals
--- tell no length.
+-- A printed text that is told is never longer than the output that was lent: a longer one is refused. This holds for
+-- every family whose refusals tell no length.
 use Prim.Native.Nat.{ℕ, _≤_}
 use mathlib.Core.Path.{_≡_, refl}
 use mathlib.Core.List.{List}

@@ -1,5 +1,5 @@
--- The numbers tell what was told by them: which fault of a text it is, by its number and its place; and no fault has a number of anything
--- else.
+-- The numbers tell what was told by them: which fault of a text it is, by its number and its place. No
+-- fault has a number that means anything else.
 use Prim.Native.Nat.{ℕ, _≤_, _<_}
 use mathlib.Core.Path.{_≡_, refl, ap, sym, _∙_}
 use mathlib.Core.Logic.{_≢_}

@@ -1,5 +1,5 @@
--- The five numbers by which an answer is told, document 01's table: those that every service which reads a text shares, and READ's. 14 is
--- split by request 1 of document 02.
+-- The five numbers by which an answer is told: document 01's table. Every service that reads a text shares some of them. The others are
+-- READ's. Request 1 of document 02 splits 14.
 use Prim.Native.Nat.{ℕ}
 use Rattle.numbers.specs.declared.Numbers.{Numbers}
 use Rattle.plan.specs.declared.ReadAnswer.{ReadAnswer}

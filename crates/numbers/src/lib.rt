@@ -1,4 +1,4 @@
-// The five numbers by which an answer is told: those that every service which reads a text shares, and READ's.
+// The five numbers of an answer: READ's own, and those that are the same for every service that reads a text.
 ghost use mathlib.Core.Path.{_≡_};
 ghost use Rattle.numbers.specs.Numbers.{token-fault-number, fault-number, fault-place, refused-numbers, fault-numbers, unread-numbers, outshort-numbers, given-numbers, read-refusal-numbers, read-numbers};
 use plan::ReadAnswer;

@@ -1,4 +1,4 @@
--- What a piece of the code is: a piece of a plan, whose token stands in the text.
+-- What a piece of the code is: a piece of a plan. Where it is a token, the token stands in the text.
 use Prim.Native.Nat.{ℕ, _+_, _≤_}
 use mathlib.Core.Path.{_≡_}
 use mathlib.Core.List.{List, [], _∷_, _++_}

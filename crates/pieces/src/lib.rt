@@ -1,5 +1,6 @@
-// The pieces of a plan as the code hands them about: what a text is walked by, what the work memory's chain shows, what is written to
-// an output. A token's bytes stay in the text.
+// The pieces of a plan as the code hands them about (an operator, a token, `[`, `]`), and writing one to an output; the numbers by which
+// the code keeps operators and classes of bytes. A walk over a text gives pieces, and the chain of the work memory shows pieces. A token's
+// bytes stay in the text.
 ghost use mathlib.Core.Path.{_≡_};
 ghost use Prim.Native.Nat.{_+_, _≤_};
 ghost use lib.ListN.{length, take, drop};

@@ -11,7 +11,7 @@ use Rattle.plan.specs.declared.Unread.{Unread}
 use Rattle.plan.specs.Pieces.{Shows, pieces}
 use Rattle.plan.specs.Plan.{Plan, end, cells, print}
 use Rattle.plan.specs.Outcomes.{is-given}
-use Rattle.plan.specs.Read.{acceptable, as-read, reads}
+use Rattle.plan.specs.Read.{acceptable, as-read, read-outcome}
 use Rattle.plan.specs.Reading.{ACCEPTED, Acceptance, OUTSIDE, PLAN, UNREAD, accept, fit, outermost, plan-in, plan-of, read, read-from, without-marks}
 use Rattle.plan.specs.Token.{Allowed}
 use Rattle.plan.proofs.Accepting.{accepted-text, accepts}
@@ -47,11 +47,11 @@ pub record AcceptableText (lim : Limits) (text : List ℕ) : Type 0 where
 
 module _ (lim : Limits) (text : List ℕ) where
   pub accepted-acceptable : {p : Plan ℕ} → accept lim (lim .cells) text ≡ ACCEPTED p → acceptable lim text ≡ true
-  unfolding acceptable reads as-read is-given
+  unfolding acceptable read-outcome as-read is-given
   accepted-acceptable h = ap (λ x. is-given (as-read x)) h
 
   pub refused-unacceptable : {u : Unread} → accept lim (lim .cells) text ≡ UNREAD u → acceptable lim text ≡ false
-  unfolding acceptable reads as-read is-given
+  unfolding acceptable read-outcome as-read is-given
   refused-unacceptable h = ap (λ x. is-given (as-read x)) h
 
   pub unacceptable-refused : acceptable lim text ≡ false → (u : Unread) × (accept lim (lim .cells) text ≡ UNREAD u)

@@ -11,7 +11,7 @@ use Rattle.plan.specs.Token.{Allowed, allowed, ampersand, annotation}
 use Rattle.plan.specs.Reading.{ACCEPTED, HoldsAnnotation, OUTSIDE, accept, without-marks}
 use Rattle.plan.specs.Pieces.{placed}
 use Rattle.kinds.specs.Limits.{Limits}
-use Rattle.plan.specs.Read.{as-read, reads}
+use Rattle.plan.specs.Read.{as-read, read-outcome}
 use Rattle.plan.proofs.MayHold.{opening}
 use Rattle.plan.proofs.ReadBack.{cells-placed, print-placed, read-accepted}
 use Rattle.plan.proofs.Accepting.{Roomy, accepted-text, print-accepted}
@@ -78,7 +78,7 @@ accept-without-marks lim roomy n lent text {p} h =
     ap (accept lim n) (sym (good .printed)) ∙ print-accepted lim roomy n lent p (good .fine) (good .fits)
 
 pub reads-without-marks : (lim : Limits) → Roomy lim → (text : List ℕ) {p : Plan ℕ} → accept lim (lim .cells) text ≡ ACCEPTED p
-    → reads lim (without-marks OUTSIDE text) ≡ reads lim text
-unfolding reads as-read
+    → read-outcome lim (without-marks OUTSIDE text) ≡ read-outcome lim text
+unfolding read-outcome as-read
 reads-without-marks lim roomy text {p} h =
     rw (accept-without-marks lim roomy (lim .cells) (omega arith) text h, h, cells-placed 0 p, print-placed 0 p)

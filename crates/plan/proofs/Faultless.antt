@@ -1,5 +1,5 @@
--- Bytes without a fault behind bytes without a fault hold none either; and how many bytes blocks, items and the text
--- without its marks take at the least.
+-- Bytes without a fault behind bytes without a fault hold no fault together. And how many bytes blocks, items and the
+-- text without its marks take at the least.
 use Prim.Native.Nat.{ℕ, suc, _+_, _≤_, _<_}
 use mathlib.Core.Path.{_≡_, refl, ap, sym, _∙_, subst}
 use mathlib.Core.Logic.{_≢_}

@@ -6,7 +6,7 @@ use mathlib.Core.Logic.{_≢_}
 use mathlib.Core.List.{List, [], _∷_, _++_, append-assoc}
 use borrow.Author.Tests.{ne-eqb}
 use Rattle.plan.specs.Plan.{open-brace, close-brace}
-use Rattle.plan.specs.Token.{Name, annotation}
+use Rattle.plan.specs.Token.{KeptToken, annotation}
 use Rattle.plan.specs.Reading.{Class, OPERATOR, OPEN, CLOSE, BRACE, BLANK, BAD, Mark, blank, an-annotation, OUTSIDE, IN-TOKEN, IN-ANNOTATION, class, enter, leave, mark, without-marks}
 use Rattle.plan.specs.Refusals.{Begins}
 use Rattle.plan.proofs.Classes.{class-byte, clash, not-brace}
@@ -41,7 +41,7 @@ in-annotation (b ∷ t) bs h =
 brace : (b : ℕ) → class b ≡ BRACE → b ≡ open-brace
 brace b c = rw c at (class-byte b)
 
-pub token-kept : (limit b : ℕ) (t bs : List ℕ) → class b ≡ BRACE → Name limit t
+pub token-kept : (limit b : ℕ) (t bs : List ℕ) → class b ≡ BRACE → KeptToken limit t
     → without-marks OUTSIDE (b ∷ (t ++ close-brace ∷ bs)) ≡ open-brace ∷ (t ++ close-brace ∷ without-marks OUTSIDE bs)
 unfolding without-marks enter mark
 token-kept limit b t bs c n =

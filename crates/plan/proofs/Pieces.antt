@@ -6,10 +6,10 @@ use mathlib.Core.Logic.{_≢_}
 use mathlib.Core.List.{List, [], _∷_, _++_, append-assoc, append-nil}
 use lib.ListN.{length}
 use Rattle.plan.specs.Plan.{Plan, end, operator, token, block, _then_, cells, labels, letter, print, relabel, open-bracket, close-bracket, open-brace, close-brace}
-use Rattle.plan.specs.Token.{Allowed, Name}
+use Rattle.plan.specs.Token.{Allowed, KeptToken}
 use Rattle.plan.specs.Reading.{Around, outermost, inside, BRACE, BLANK, OUTSIDE, class, without-marks}
 use Rattle.plan.specs.Refusals.{Begins}
-use Rattle.plan.specs.Pieces.{Piece, OP, TOKEN, BEGIN, END, pieces, piece-print, in-a-row, starts, relabelled, Shows, nothing, a-mark, an-operator, a-token, opens, closes, so-far, seen, Closes}
+use Rattle.plan.specs.Pieces.{Piece, OP, TOKEN, BEGIN, END, pieces, piece-print, in-a-row, piece-labels, relabelled, Shows, nothing, a-mark, an-operator, a-token, opens, closes, so-far, seen, Closes}
 use Rattle.plan.proofs.Marks.{kept, mark-begins-none, mark-dropped, token-kept}
 use Rattle.plan.proofs.Classes.{class-byte, clash}
 use Rattle.plan.proofs.Plans.{length-labels}
@@ -21,13 +21,13 @@ module _ {L : Type 0} where
   row-append [] qs = refl
   row-append (x ∷ ps) qs = rw (row-append ps qs, append-assoc)
 
-  pub starts-append : (ps qs : List (Piece L)) → starts (ps ++ qs) ≡ starts ps ++ starts qs
-  unfolding starts
-  starts-append [] qs = refl
-  starts-append (OP l o ∷ ps) qs = ap (l ∷_) (starts-append ps qs)
-  starts-append (TOKEN l t ∷ ps) qs = ap (l ∷_) (starts-append ps qs)
-  starts-append (BEGIN l ∷ ps) qs = ap (l ∷_) (starts-append ps qs)
-  starts-append (END ∷ ps) qs = starts-append ps qs
+  pub piece-labels-append : (ps qs : List (Piece L)) → piece-labels (ps ++ qs) ≡ piece-labels ps ++ piece-labels qs
+  unfolding piece-labels
+  piece-labels-append [] qs = refl
+  piece-labels-append (OP l o ∷ ps) qs = ap (l ∷_) (piece-labels-append ps qs)
+  piece-labels-append (TOKEN l t ∷ ps) qs = ap (l ∷_) (piece-labels-append ps qs)
+  piece-labels-append (BEGIN l ∷ ps) qs = ap (l ∷_) (piece-labels-append ps qs)
+  piece-labels-append (END ∷ ps) qs = piece-labels-append ps qs
 
   pub pieces-then : (p q : Plan L) → pieces (p then q) ≡ pieces p ++ pieces q
   unfolding _then_ pieces
@@ -43,14 +43,14 @@ module _ {L : Type 0} where
   print-pieces (token l t p) = rw (print-pieces p, append-assoc)
   print-pieces (block l b p) = rw (row-append (pieces b) (END ∷ pieces p), print-pieces b, print-pieces p)
 
-  pub labels-pieces : (p : Plan L) → labels p ≡ starts (pieces p)
-  unfolding labels pieces starts
+  pub labels-pieces : (p : Plan L) → labels p ≡ piece-labels (pieces p)
+  unfolding labels pieces piece-labels
   labels-pieces end = refl
   labels-pieces (operator l o p) = ap (l ∷_) (labels-pieces p)
   labels-pieces (token l t p) = ap (l ∷_) (labels-pieces p)
-  labels-pieces (block l b p) = rw (starts-append (pieces b) (END ∷ pieces p), labels-pieces b, labels-pieces p)
+  labels-pieces (block l b p) = rw (piece-labels-append (pieces b) (END ∷ pieces p), labels-pieces b, labels-pieces p)
 
-  pub cells-pieces : (p : Plan L) → cells p ≡ length (starts (pieces p))
+  pub cells-pieces : (p : Plan L) → cells p ≡ length (piece-labels (pieces p))
   cells-pieces p = sym (length-labels p) ∙ ap length (labels-pieces p)
 
   -- a plan closes what it begins
@@ -109,8 +109,8 @@ module _ {L M : Type 0} (f : L → M) where
   relabelled-append (BEGIN l ∷ ps) qs = ap (BEGIN (f l) ∷_) (relabelled-append ps qs)
   relabelled-append (END ∷ ps) qs = ap (END ∷_) (relabelled-append ps qs)
 
-  pub length-relabelled : (ps : List (Piece L)) → length (starts (relabelled f ps)) ≡ length (starts ps)
-  unfolding starts relabelled
+  pub length-relabelled : (ps : List (Piece L)) → length (piece-labels (relabelled f ps)) ≡ length (piece-labels ps)
+  unfolding piece-labels relabelled
   length-relabelled [] = refl
   length-relabelled (OP l o ∷ ps) = ap suc (length-relabelled ps)
   length-relabelled (TOKEN l t ∷ ps) = ap suc (length-relabelled ps)
@@ -137,15 +137,15 @@ unfolding so-far pieces
 so-far-close l before out here =
     so-far-then out before (block l here end) ∙ sym (append-assoc (so-far out before) (BEGIN l ∷ pieces here) (END ∷ []))
 
-pub seen-pieces : (out : Around) (here : Plan ℕ) → seen out here ≡ starts (so-far out here)
-unfolding seen so-far starts
+pub seen-pieces : (out : Around) (here : Plan ℕ) → seen out here ≡ piece-labels (so-far out here)
+unfolding seen so-far piece-labels
 seen-pieces outermost here = labels-pieces here
 seen-pieces (inside l before out) here =
-    rw (seen-pieces out before, labels-pieces here) (sym (starts-append (so-far out before) (BEGIN l ∷ pieces here)))
+    rw (seen-pieces out before, labels-pieces here) (sym (piece-labels-append (so-far out before) (BEGIN l ∷ pieces here)))
 
 pub seen-then : (out : Around) (here q : Plan ℕ) → seen out (here then q) ≡ seen out here ++ labels q
 seen-then out here q =
-    rw (seen-pieces out (here then q), seen-pieces out here, labels-pieces q, so-far-then out here q) (starts-append (so-far out here) (pieces q))
+    rw (seen-pieces out (here then q), seen-pieces out here, labels-pieces q, so-far-then out here q) (piece-labels-append (so-far out here) (pieces q))
 
 -- bytes and their pieces
 
@@ -167,11 +167,11 @@ shows-row (opens {b = b} {bs = bs} c s) =
 shows-row (closes {b = b} {bs = bs} c s) =
     one-byte b close-bracket bs (λ z. clash (sym c ∙ z) tt) (λ z. clash (sym c ∙ z) tt) (rw c at (class-byte b)) (shows-row s)
 
--- their tokens are names
+-- their tokens are kept ones
 abbrev Fine : (limit : ℕ) → List (Piece ℕ) → Type 0
 Fine limit [] = Unit {0}
 Fine limit (OP l o ∷ ps) = Fine limit ps
-Fine limit (TOKEN l t ∷ ps) = Name limit t × Fine limit ps
+Fine limit (TOKEN l t ∷ ps) = KeptToken limit t × Fine limit ps
 Fine limit (BEGIN l ∷ ps) = Fine limit ps
 Fine limit (END ∷ ps) = Fine limit ps
 
@@ -197,8 +197,8 @@ pub shows-allowed : {limit at : ℕ} {bs : List ℕ} (p : Plan ℕ) → Shows li
 shows-allowed {limit} p s = fine-parts limit p [] (rw (append-nil (pieces p)) (fine s)) .0
 
 -- an item that begins with the first byte gives the first label
-pub first-start : {limit at b : ℕ} {bs : List ℕ} {ps : List (Piece ℕ)} → Shows limit at (b ∷ bs) ps → Begins (class b) bs → (ls : List ℕ) × (starts ps ≡ at ∷ ls)
-unfolding starts
+pub first-start : {limit at b : ℕ} {bs : List ℕ} {ps : List (Piece ℕ)} → Shows limit at (b ∷ bs) ps → Begins (class b) bs → (ls : List ℕ) × (piece-labels ps ≡ at ∷ ls)
+unfolding piece-labels
 first-start (a-mark h s) g = absurd (mark-begins-none _ h g)
 first-start (an-operator c s) g = (_, refl)
 first-start (a-token t c n s) g = (_, refl)

@@ -8,11 +8,11 @@ use native.Mathlib.Omega.{arith}
 use lib.ListN.{length, length-append}
 use Rattle.plan.specs.Plan.{Plan, end, operator, token, block, _then_, cells, print, close-brace}
 use Rattle.plan.specs.Token.{Allowed, allowed, annotation}
-use Rattle.plan.specs.Reading.{ON, PLAN, Around, outermost, inside, class, go-on, move, past-token, read-from, Mark, blank, an-annotation, BRACE, OUTSIDE, mark, without-marks}
+use Rattle.plan.specs.Reading.{ON, PLAN, Around, outermost, inside, class, go-on, move, after-token, read-from, Mark, blank, an-annotation, BRACE, OUTSIDE, mark, without-marks}
 use Rattle.plan.specs.Refusals.{Faultless, nothing, a-mark, an-operator, a-token, opens, closes}
-use Rattle.plan.specs.Pieces.{Piece, OP, TOKEN, BEGIN, END, pieces, starts, Shows, so-far}
+use Rattle.plan.specs.Pieces.{Piece, OP, TOKEN, BEGIN, END, pieces, piece-labels, Shows, so-far}
 use Rattle.plan.specs.Pieces as shown
-use Rattle.plan.proofs.Pieces.{cells-pieces, print-pieces, starts-append, so-far-close, so-far-then, shows-allowed, shows-row}
+use Rattle.plan.proofs.Pieces.{cells-pieces, print-pieces, piece-labels-append, so-far-close, so-far-then, shows-allowed, shows-row}
 use Rattle.plan.proofs.Tokens.{annotation-of, token-text-at}
 
 abbrev pub depth : Around → ℕ
@@ -38,7 +38,7 @@ moved limit at b out here out′ here′ m rest = rw (m rest) (ap (λ n. read-fr
 pub token-passed : (limit at b : ℕ) (t : List ℕ) (out : Around) (here : Plan ℕ) (rest : List ℕ) → class b ≡ BRACE → allowed limit t ≡ true
     → {s : Bool} → annotation t ≡ s → read-from limit at 0 out here (b ∷ (t ++ close-brace ∷ rest))
     ≡ read-from limit (suc at + suc (length t)) 0 out (cond s here (here then token at t end)) rest
-unfolding read-from go-on move past-token mark
+unfolding read-from go-on move after-token mark
 token-passed limit at b t out here rest c a {s} e =
     rw (c, token-text-at limit t rest a, annotation-of limit t (close-brace ∷ rest) a, e)
     (skip-token limit (suc at) out (cond s here (here then token at t end)) t rest)
@@ -60,12 +60,12 @@ pub record Reached (limit at : ℕ) (out : Around) (here : Plan ℕ) (bs : List 
   pub more : List (Piece ℕ)
   pub shows : Shows limit at bs more
   pub grown : so-far then-out then-here ≡ so-far out here ++ more
-  pub counted : length (starts more) ≡ k
+  pub counted : length (piece-labels more) ≡ k
 
 -- one piece, or a mark, before the bytes bs
 onward : {limit at later e j k : ℕ} {out next : Around} {here then-here : Plan ℕ} {us bs : List ℕ} (one : List (Piece ℕ))
     → ((rest : List ℕ) → read-from limit at 0 out here (us ++ rest) ≡ read-from limit later 0 next then-here (bs ++ rest))
-    → later + length bs ≡ at + length us → so-far next then-here ≡ so-far out here ++ one → k ≡ length (starts one) + j
+    → later + length bs ≡ at + length us → so-far next then-here ≡ so-far out here ++ one → k ≡ length (piece-labels one) + j
     → (r : Reached limit later next then-here bs e j) → Shows limit at us (one ++ r .more) → Reached limit at out here us e k
 onward {limit} {out = out} {here = here} one go far new count r s =
     record {
@@ -76,12 +76,12 @@ onward {limit} {out = out} {here = here} one go far new count r s =
       more = one ++ r .more;
       shows = s;
       grown = r .grown ∙ ap (_++ r .more) new ∙ append-assoc (so-far out here) one (r .more);
-      counted = omega (arith, r .counted, ap length (starts-append one (r .more)), length-append (starts one) (starts (r .more)));
+      counted = omega (arith, r .counted, ap length (piece-labels-append one (r .more)), length-append (piece-labels one) (piece-labels (r .more)));
     }
 
 pub reached : {limit d e k : ℕ} {bs : List ℕ} → Faultless limit d bs e k
     → (at : ℕ) (out : Around) (here : Plan ℕ) → depth out ≡ d → Reached limit at out here bs e k
-unfolding read-from go-on move past-token so-far pieces starts
+unfolding read-from go-on move after-token so-far pieces piece-labels
 reached {limit} nothing at out here h =
     record {
       then-out = out;
@@ -161,7 +161,7 @@ text-read {limit} {text = text} f =
       plan = w .plan;
       reads = w .reads;
       shows = shows;
-      counted = cells-pieces (w .plan) ∙ ap (λ ps. length (starts ps)) (w .all) ∙ r .counted;
+      counted = cells-pieces (w .plan) ∙ ap (λ ps. length (piece-labels ps)) (w .all) ∙ r .counted;
       printed = print-pieces (w .plan) ∙ shows-row shows;
       fine = shows-allowed (w .plan) shows;
     }

@@ -61,7 +61,7 @@ module _ {L : Type 0} where
   pub print-placed : (at : ℕ) (p : Plan L) → print (placed at p) ≡ print p
   print-placed at p = sym (print-relabel (λ l. tt) (placed at p)) ∙ ap print (bare-placed at p) ∙ print-relabel (λ l. tt) p
 
-  -- reading the printed text of a plan whose tokens are names, so that none starts with `&`, gives the plan back, but for its labels
+  -- reading the printed text of a plan whose tokens are kept ones, so that none starts with `&`, gives the plan back, except for its labels
   pub read-print : (limit n : ℕ) (p : Plan L) → Allowed limit p → cells p ≤ n → read limit n (print p) ≡ ACCEPTED (placed 0 p)
   unfolding read fit _then_ read-from
   read-print limit n p h g =
@@ -85,7 +85,7 @@ pub equal-iff-print : {L M : Type 0} (limit : ℕ) (p : Plan L) (q : Plan M) →
 equal-iff-print limit p q hp hq =
     (λ e. sym (print-relabel (λ l. tt) p) ∙ ap print e ∙ print-relabel (λ l. tt) q, print-injective limit p q hp hq)
 
--- What is read has only names for tokens and no more cells than were lent, and is printed as the text without its marks.
+-- What is read has kept tokens alone and no more cells than were lent, and is printed as the text without its marks.
 pub record Accepted (limit n : ℕ) (text : List ℕ) (p : Plan ℕ) : Type 0 where
   pub fine : Allowed limit p
   pub fits : cells p ≤ n

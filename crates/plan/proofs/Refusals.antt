@@ -17,15 +17,15 @@ use Rattle.plan.specs.declared.TextFault.{TextFault}
 use Rattle.plan.specs.declared.TextFault.the-variants.{Unclosed}
 use Rattle.plan.specs.Plan.{Plan, end, operator, token, block, _then_, cells, labels, close-brace}
 use Rattle.plan.specs.Token.{annotation, token-text}
-use Rattle.plan.specs.Reading.{Around, outermost, inside, Class, OPERATOR, OPEN, CLOSE, BRACE, BLANK, BAD, blank, an-annotation, class, place, go-on, move, past-token, mark, Reading, PLAN, FAULT, ACCEPTED, UNREAD, place-of-item, read-from, fit, read}
-use Rattle.plan.specs.Refusals.{Faultless, nothing, a-mark, an-operator, a-token, opens, closes, Fault, bad-byte, bad-token, unmatched, Begins, Faulty, fault, unclosed, Row, faulty, overfull}
+use Rattle.plan.specs.Reading.{Around, outermost, inside, Class, OPERATOR, OPEN, CLOSE, BRACE, BLANK, BAD, blank, an-annotation, class, place, go-on, move, after-token, mark, Reading, PLAN, FAULT, ACCEPTED, UNREAD, place-of-item, read-from, fit, read}
+use Rattle.plan.specs.Refusals.{Faultless, nothing, a-mark, an-operator, a-token, opens, closes, Fault, bad-byte, bad-token, unmatched, Begins, Faulty, first-fault-there, unclosed, Row, faulty, overfull}
 use Rattle.plan.proofs.Options.{Each}
 use Rattle.plan.proofs.Plans.{length-labels}
 use Rattle.kinds.proofs.Tests.{never}
 use Rattle.plan.proofs.TokenFaults.{fault-no-token, first-met, met-first}
 use Rattle.plan.proofs.Tokens.{annotation-of, token-text-finds}
-use Rattle.plan.specs.Pieces.{Found, pieces, starts, so-far}
-use Rattle.plan.proofs.Pieces.{first-start, labels-pieces, starts-append}
+use Rattle.plan.specs.Pieces.{Found, pieces, piece-labels, so-far}
+use Rattle.plan.proofs.Pieces.{first-start, labels-pieces, piece-labels-append}
 use Rattle.plan.proofs.Reached.{depth, reached, read-whole, text-read}
 
 -- what reading says of bytes that begin at the place `from` with d blocks open
@@ -57,8 +57,8 @@ module _ (limit at b : ℕ) (bs : List ℕ)
   then-read out here skip = read-from limit (suc at) skip out here bs
 
   by-token : (out : Around) (here : Plan ℕ) (o : Option (List ℕ)) → class b ≡ BRACE → token-text limit bs ≡ o → Each (Found limit bs) o
-      → Verdict limit at (depth out) (b ∷ bs) (go-on (past-token limit at bs o out here) then-read)
-  unfolding go-on past-token mark
+      → Verdict limit at (depth out) (b ∷ bs) (go-on (after-token limit at bs o out here) then-read)
+  unfolding go-on after-token mark
   by-token out here none c e s = stopped [] bs b {at = at} refl nothing (bad-token c (first-met limit bs e)) (omega arith)
   by-token out here (some t) c e s =
       let same : annotation bs ≡ annotation t = ap annotation (s .splits) ∙ annotation-of limit t (close-brace ∷ s .rest) (s .fine) in
@@ -130,10 +130,10 @@ item-place limit before rest b {n = n} {p = p} f g e =
     let r′ = reached w at (r .then-out) (r .then-here) refl in
     let read = read-whole at (r .then-out) (r .then-here) r′ in
     let first = first-start (r′ .shows) g in
-    let before-it = starts (r .more) in
+    let before-it = piece-labels (r .more) in
     let plan : p ≡ read .plan = plan-injective (sym later ∙ read .reads) in
     let listed : labels p ≡ before-it ++ (length before) ∷ first .0 =
-    labels-pieces p ∙ ap starts (ap pieces plan ∙ read .all ∙ ap (_++ r′ .more) (r .grown)) ∙ starts-append (r .more) (r′ .more)
+    labels-pieces p ∙ ap piece-labels (ap pieces plan ∙ read .all ∙ ap (_++ r′ .more) (r .grown)) ∙ piece-labels-append (r .more) (r′ .more)
     ∙ ap (before-it ++_) (first .1) ∙ ap (λ n. before-it ++ n ∷ first .0) (zero-add (length before)) in (
       ap (λ l. getD l n 0) listed ∙ getD-at before-it (length before) (first .0) 0 n (r .counted),
       omega (arith, length-labels p, ap length listed, length-append before-it (length before ∷ first .0), r .counted),
@@ -186,7 +186,7 @@ item-at (closes {b = b} c f) n h = let i = item-at f n h in item-behind (b ∷ [
 -- a fault of the next byte stops the reader there
 fault-stops : {limit at b d : ℕ} {rest : List ℕ} {r : TextFault} (out : Around) (here : Plan ℕ) → depth out ≡ d → Fault limit at b rest d r
     → read-from limit at 0 out here (b ∷ rest) ≡ FAULT r
-unfolding read-from go-on move past-token
+unfolding read-from go-on move after-token
 fault-stops out here h (bad-byte c) = rw c
 fault-stops out here h (bad-token c first) = rw (c, fault-no-token (first .stands), met-first first)
 fault-stops outermost here h (unmatched c) = rw c
@@ -215,7 +215,7 @@ module _ {limit d k : ℕ} {before : List ℕ} (f : Faultless limit 0 before d k
 
 -- the table's row, then the fault, however many cells there are
 pub faulty-read : {limit : ℕ} {text : List ℕ} {f : TextFault} → Faulty limit text f → read-from limit 0 0 outermost end text ≡ FAULT f
-faulty-read {limit} (fault before rest b e f g) =
+faulty-read {limit} (first-fault-there before rest b e f g) =
     let r = past-front f (b ∷ rest) in
     ap (read-from limit 0 0 outermost end) e ∙ r .3 ∙ fault-stops (r .0) (r .1) (r .2) g
 faulty-read {limit} {text} (unclosed f) =
@@ -227,7 +227,7 @@ pub read-faulty : (limit : ℕ) (text : List ℕ) {f : TextFault} → read-from 
 read-faulty limit text {f} h = go (rw h at (verdict limit text 0 0 outermost end 0 (omega arith) (omega arith)))
   where
     go : {g : TextFault} → Verdict limit 0 0 text (FAULT g) → Faulty limit text g
-    go (stopped before rest b e ok wrong a) = fault before rest b e ok (rw (a ∙ zero-add (length before)) at wrong)
+    go (stopped before rest b e ok wrong a) = first-fault-there before rest b e ok (rw (a ∙ zero-add (length before)) at wrong)
     go (open-end ok a) = subst (λ at. Faulty limit text (Unclosed (place at))) (sym (a ∙ zero-add (length text))) (unclosed ok)
 
 -- the same with the row of a plan that is too large

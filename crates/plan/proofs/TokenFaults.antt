@@ -1,5 +1,5 @@
--- The table of a token's faults: each stands before the first `}`, an allowed token has none, the first of them is one, and it is the one
--- that the reader comes upon. What has been taken of a token (Taken.antt) holds no fault, so the first one stands behind it.
+-- The table of a token's faults. Each stands before the first `}`. An allowed token has none. There is only one first fault, and it is the
+-- one that the reader comes upon. What has been taken of a token (Taken.antt) holds no fault, so the first one stands behind it.
 use Prim.Native.Nat.{ℕ, zero, suc, _+_, _-_, _≤_, _<_}
 use mathlib.Core.Path.{_≡_, refl, ap, ap₂, sym, _∙_, subst}
 use mathlib.Core.Logic.{_≢_, _⊎_, inl, inr, _↔_}
@@ -19,7 +19,7 @@ use Rattle.plan.specs.declared.TokenFault.{TokenFault}
 use Rattle.plan.specs.declared.TokenFault.the-variants.{Empty, Long, BadUtf8, Forbidden, InnerBrace}
 use Rattle.plan.specs.Plan.{open-brace, close-brace}
 use Rattle.plan.specs.Token.{all-permitted, character, may-hold, token-text}
-use Rattle.plan.specs.TokenFaults.{NoneBefore, CharacterAt, first, behind, NeverHeld, FaultAt, nothing-between, too-long, text-ends, no-character, never-held, inner-brace, FirstFault, Met, met, unheld, meet, first-fault}
+use Rattle.plan.specs.TokenFaults.{NoneBefore, CharacterAt, first, behind, NeverHeld, FaultAt, nothing-between, token-too-long, text-ends, no-character, never-held, inner-brace, FirstFault, Met, met, unheld, meet, first-fault}
 use Rattle.plan.specs.Pieces.{Found}
 use Rattle.plan.proofs.MayHold.{beyond, closing, control, late-control, opening, printing, replacement}
 use Rattle.plan.proofs.Options.{Each, some-is-not-none}
@@ -46,7 +46,7 @@ unheld-never v h o c = go (ltb v 0x20) refl (ltb v 0x7F) refl (ltb 0x9F v) refl 
 
 -- every fault stands before the first `}`, an empty token's at it
 
--- no byte of a character but a `}` is a `}`
+-- no byte of a character other than a `}` is a `}`
 character-no-brace : (bs : List ℕ) {v width : ℕ} → character bs ≡ Whole v width → v ≢ close-brace → NoneBefore bs width
 character-no-brace [] e n i l z = absurd (omega (arith, character-width [] e))
 character-no-brace (b ∷ bs) e n zero l z = n (character-one b bs e (omega arith) .0 ∙ z)
@@ -63,7 +63,7 @@ character-at-before {bs} (behind {i} s e n) k l =
 
 pub stands-before : {limit : ℕ} {bs : List ℕ} {j : ℕ} {f : TokenFault} → FaultAt limit bs j f → NoneBefore bs j
 stands-before (nothing-between e) = λ i l. absurd (omega arith)
-stands-before (too-long at l n) = λ i h. n i (omega arith)
+stands-before (token-too-long at l n) = λ i h. n i (omega arith)
 stands-before (text-ends at l n) = n
 stands-before (no-character s l e) = character-at-before s
 stands-before (never-held s e h) = character-at-before s
@@ -71,7 +71,7 @@ stands-before (inner-brace l n e) = n
 
 empty-first : {limit : ℕ} {bs : List ℕ} {j : ℕ} {f : TokenFault} → FaultAt limit bs j f → f ≡ Empty → j ≡ 0
 empty-first (nothing-between e) h = refl
-empty-first (too-long at l n) h = never cc
+empty-first (token-too-long at l n) h = never cc
 empty-first (text-ends at l n) h = never cc
 empty-first (no-character s l e) h = never cc
 empty-first (never-held s e n) h = never cc
@@ -128,7 +128,7 @@ taken-at (further u c {x} t e h) v {j} s l =
         (x, length c, ap character dropped ∙ extended c v e, h)
     go p (inr m) = absurd (omega (arith, length-append u c, m .0, l))
 
--- what was taken of a token holds no brace, and no fault but a byte that is too many
+-- what was taken of a token holds no brace, and no fault except a byte that is too many
 module _ {u : List ℕ} (t : Taken u) (v : List ℕ) where
   none-taken : (b : ℕ) → b < 128 → may-hold b ≡ false → {j : ℕ} → j < length u → getD (u ++ v) j 0 ≢ b
   none-taken b low h {j} l = byte-not-held b low h u v t j l
@@ -138,7 +138,7 @@ module _ {u : List ℕ} (t : Taken u) (v : List ℕ) where
 
   within : {limit j : ℕ} {g : TokenFault} → FaultAt limit (u ++ v) j g → j < length u → (j ≡ limit - 2) × (g ≡ Long)
   within (nothing-between e) l = absurd (none-in-taken 0 l (ap (λ bs. getD bs 0 0) e))
-  within (too-long at l′ n) l = (at, refl)
+  within (token-too-long at l′ n) l = (at, refl)
   within (text-ends at l′ n) l = absurd (omega (arith, at, l, length-append u v))
   within (no-character s l′ e) l = let c = taken-at t v s l in never (cc)
   within (never-held {v = y} s e h) l =
@@ -194,7 +194,7 @@ module _ {u : List ℕ} (t : Taken u) (v : List ℕ) (some-byte : 0 < length v) 
   unfolding fault-of
   here short (nothing-between e) h =
       sym (low-fault v some-byte close-brace (omega arith) (sym (next-byte u v h) ∙ ap (λ bs. getD bs 0 0) e) ∙ brace-unheld)
-  here short (too-long {i = j} at l n) h = absurd (n j (omega arith) (next-byte u v h ∙ short at))
+  here short (token-too-long {i = j} at l n) h = absurd (n j (omega arith) (next-byte u v h ∙ short at))
   here short (text-ends at l n) h = absurd (omega (arith, at, h, some-byte, length-append u v))
   here short (no-character {i = j} s l e) h =
       ap fault-of (sym e ∙ ap character (drop-at u v j (sym h)))
@@ -228,7 +228,7 @@ none-below {limit} {i} t v near few j g a =
 
 long-first : {limit : ℕ} {u : List ℕ} → Taken u → (v : List ℕ) → limit - 2 ≤ length u → limit - 2 < length (u ++ v)
     → NoneBefore (u ++ v) (suc (limit - 2)) → FirstFault limit (u ++ v) (limit - 2) Long
-long-first t v far l n = first-of (too-long refl l n) (none-below t v far (omega arith)) (λ j g a same. inr refl)
+long-first t v far l n = first-of (token-too-long refl l n) (none-below t v far (omega arith)) (λ j g a same. inr refl)
 
 -- the fault at the byte behind what was taken, if that is within the limit
 module _ {limit : ℕ} {u : List ℕ} (t : Taken u) (v : List ℕ) (few : length u ≤ limit - 2) where

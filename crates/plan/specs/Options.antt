@@ -1,4 +1,4 @@
--- What may be missing: another in its place, a function used under it, and whether it is.
+-- Values that may be missing: another in place of a missing one, a function used on one that is there, and whether one is missing.
 use mathlib.Core.Bool.{Bool, true, false}
 use mathlib.Core.Option.{Option, none, some}
 

@@ -1,5 +1,5 @@
--- One way to answer, for every service that writes a text: a refusal, or a text with what goes with it, and what the output lent then
--- holds. A family of services gives its refusals R, what it tells beside a text G, and its answers A.
+-- One way to answer, for every service that writes a text: a refusal, or a text with what goes with it; and what the output lent then
+-- holds. A family of services has refusals of type R, tells a G beside a text, and has answers of type A.
 use Prim.Native.Nat.{ℕ}
 use mathlib.Core.Path.{_≡_}
 use mathlib.Core.Bool.{Bool, true, false, cond}
@@ -30,7 +30,7 @@ write f (GIVES g cells text) out =
     cond (leb (length text) (length out)) (record { answer = f .given g cells (length text); output = text ++ drop (length text) out })
     (record { answer = f .refused (f .out-short (length text)); output = out })
 
--- what a call did that was lent the output out: its answer r and the bytes out′ that it left are those of this outcome
+-- what a call did with the output out, which it was lent: its answer r and the bytes out′ that it left are those of this outcome
 pub record Wrote {R G A : Type 0} (f : Family R G A) (o : Outcome R G) (out : List ℕ) (r : A) (out′ : List ℕ) : Type 0 where
   pub answer : r ≡ write f o out .answer
   pub output : out′ ≡ write f o out .output

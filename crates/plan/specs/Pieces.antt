@@ -7,7 +7,7 @@ use mathlib.Core.Bool.{true}
 use mathlib.Core.List.{List, [], _∷_, _++_}
 use lib.ListN.{length}
 use Rattle.plan.specs.Plan.{Operator, Plan, end, operator, token, block, labels, letter, print, open-bracket, close-bracket, open-brace, close-brace}
-use Rattle.plan.specs.Token.{Name, allowed}
+use Rattle.plan.specs.Token.{KeptToken, allowed}
 use Rattle.plan.specs.Reading.{Around, outermost, inside, Mark, OPERATOR, OPEN, CLOSE, BRACE, class}
 
 pub data Piece (L : Type 0) : Type 0 where
@@ -34,12 +34,12 @@ in-a-row [] = []
 in-a-row (x ∷ ps) = piece-print x ++ in-a-row ps
 
 -- the labels of the pieces that begin an item: as many as there are cells
-unfoldable pub starts : {L : Type 0} → List (Piece L) → List L
-starts [] = []
-starts (OP l o ∷ ps) = l ∷ starts ps
-starts (TOKEN l t ∷ ps) = l ∷ starts ps
-starts (BEGIN l ∷ ps) = l ∷ starts ps
-starts (END ∷ ps) = starts ps
+unfoldable pub piece-labels : {L : Type 0} → List (Piece L) → List L
+piece-labels [] = []
+piece-labels (OP l o ∷ ps) = l ∷ piece-labels ps
+piece-labels (TOKEN l t ∷ ps) = l ∷ piece-labels ps
+piece-labels (BEGIN l ∷ ps) = l ∷ piece-labels ps
+piece-labels (END ∷ ps) = piece-labels ps
 
 unfoldable pub relabelled : {L M : Type 0} → (L → M) → List (Piece L) → List (Piece M)
 relabelled f [] = []
@@ -52,8 +52,8 @@ relabelled f (END ∷ ps) = END ∷ relabelled f ps
 abbrev pub bares : {L : Type 0} → List (Piece L) → List (Piece (Unit {0}))
 bares ps = relabelled (λ l. tt) ps
 
--- `Shows limit at bs ps`: bytes whose first stands at the place `at` hold no fault, blocks that are open or closed too many aside,
--- and ps are their pieces, each labelled with its place.
+-- `Shows limit at bs ps`: the bytes bs, the first of them at the place `at`, hold no fault, and ps are their pieces, each labelled with its
+-- place. Blocks left open, or a `]` too many, do not count as a fault here.
 pub data Shows (limit : ℕ) : ℕ → List ℕ → List (Piece ℕ) → Type 0 where
   nothing : {at : ℕ} → Shows limit at [] []
   a-mark : {at b : ℕ} {m bs : List ℕ} {ps : List (Piece ℕ)}
@@ -61,7 +61,7 @@ pub data Shows (limit : ℕ) : ℕ → List ℕ → List (Piece ℕ) → Type 0 
   an-operator : {at b : ℕ} {o : Operator} {bs : List ℕ} {ps : List (Piece ℕ)}
       → class b ≡ OPERATOR o → Shows limit (at + 1) bs ps → Shows limit at (b ∷ bs) (OP at o ∷ ps)
   a-token : {at b : ℕ} {bs : List ℕ} {ps : List (Piece ℕ)} (t : List ℕ)
-      → class b ≡ BRACE → Name limit t → Shows limit (at + (length t + 2)) bs ps
+      → class b ≡ BRACE → KeptToken limit t → Shows limit (at + (length t + 2)) bs ps
       → Shows limit at (b ∷ (t ++ close-brace ∷ bs)) (TOKEN at t ∷ ps)
   opens : {at b : ℕ} {bs : List ℕ} {ps : List (Piece ℕ)} → class b ≡ OPEN → Shows limit (at + 1) bs ps → Shows limit at (b ∷ bs) (BEGIN at ∷ ps)
   closes : {at b : ℕ} {bs : List ℕ} {ps : List (Piece ℕ)} → class b ≡ CLOSE → Shows limit (at + 1) bs ps → Shows limit at (b ∷ bs) (END ∷ ps)
@@ -88,7 +88,7 @@ placed at (operator l o p) = operator at o (placed (at + 1) p)
 placed at (token l t p) = token at t (placed (suc at + suc (length t)) p)
 placed at (block l b p) = block at (placed (at + 1) b) (placed (at + 1 + length (print b) + 1) p)
 
--- pieces that, with so many blocks open before them, close each of these and each that they begin
+-- with so many blocks open before them, the pieces close each of these and each that they begin
 abbrev pub Closes : {L : Type 0} → ℕ → List (Piece L) → Type 0
 Closes zero [] = Unit {0}
 Closes (suc d) [] = ⊥

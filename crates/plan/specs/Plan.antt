@@ -72,7 +72,7 @@ relabel f (block l b p) = block (f l) (relabel f b) (relabel f p)
 abbrev pub bare : {L : Type 0} → Plan L → Plan (Unit {0})
 bare p = relabel (λ l. tt) p
 
--- the same plan with every label and every token's text replaced, at any depth, and with the tokens' texts alone
+-- the same plan with every label and every token's text replaced, at any depth; then with only the tokens' texts replaced
 unfoldable pub changed : {L M : Type 0} → (L → M) → (List ℕ → List ℕ) → Plan L → Plan M
 changed f g end = end
 changed f g (operator l o p) = operator (f l) o (changed f g p)

@@ -1,5 +1,5 @@
--- What READ answers and what it leaves, for every input: document 01, CHECK and TIDY, which request 4 of document 02 makes one; and which
--- texts are acceptable.
+-- What READ answers and what it leaves, for every input. READ is CHECK and TIDY of document 01: request 4 of document 02 makes
+-- them one. And which texts are acceptable.
 use Prim.Native.Nat.{ℕ}
 use mathlib.Core.Bool.{Bool}
 use mathlib.Core.List.{List}
@@ -19,10 +19,10 @@ unfoldable pub as-read : Acceptance → Outcome ReadRefusal (Unit {0})
 as-read (UNREAD u) = REFUSES (NotRead u)
 as-read (ACCEPTED p) = GIVES tt (cells p) (print p)
 
--- READ before its output is looked at. It lends no memory: its plans may have as many cells as any
-unfoldable pub reads : Limits → List ℕ → Outcome ReadRefusal (Unit {0})
-reads lim text = as-read (accept lim (lim .cells) text)
+-- READ before its output is looked at. No memory is lent to it, so its plans may have as many cells as any
+unfoldable pub read-outcome : Limits → List ℕ → Outcome ReadRefusal (Unit {0})
+read-outcome lim text = as-read (accept lim (lim .cells) text)
 
 -- a text is acceptable when nothing but OUTSHORT could refuse it
 unfoldable pub acceptable : Limits → List ℕ → Bool
-acceptable lim text = is-given (reads lim text)
+acceptable lim text = is-given (read-outcome lim text)

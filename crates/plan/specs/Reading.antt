@@ -1,6 +1,6 @@
--- Reading a text: the plan, each item labelled with the place of its first byte, or the first fault; then whether the plan fits the
--- cells that there are. Document 01, the table of bytes and refusals 11 and 13 to 17, and the faults of a token; annotations mean nothing
--- by request 2 of document 02.
+-- Reading a text gives its plan, each item labelled with the place of its first byte, or its first fault. Then it is asked whether the plan
+-- fits the cells that there are. This is document 01's table of bytes, its refusals 11 and 13 to 17, and the faults of a token. By request
+-- 2 of document 02 annotations mean nothing.
 use Prim.Native.Nat.{ℕ, zero, suc, _+_, _-_}
 use mathlib.Core.Path.{_≡_}
 use mathlib.Core.Logic.{_≢_, _⊎_}
@@ -37,7 +37,7 @@ class b =
     (cond (eqb b 32) BLANK
     (cond (eqb b 10) BLANK BAD))))))))
 
--- which bytes the table gives a class: for the refused one, those of no other row
+-- which bytes the table gives a class; the refused class has those of no other row
 abbrev pub Byte : Class → ℕ → Type 0
 Byte (OPERATOR o) b = b ≡ letter o
 Byte OPEN b = b ≡ open-bracket
@@ -46,8 +46,8 @@ Byte BRACE b = b ≡ open-brace
 Byte BLANK b = (b ≡ 32) ⊎ (b ≡ 10)
 Byte BAD b = ((o : Operator) → b ≢ letter o) × (b ≢ open-bracket) × (b ≢ close-bracket) × (b ≢ open-brace) × (b ≢ 32) × (b ≢ 10)
 
--- What means nothing outside tokens is a mark: SP, LF, or an annotation. The class of its first byte and the bytes behind that one tell
--- it, since those behind a `{` start as the token's text does.
+-- What means nothing outside tokens is a mark: SP, LF, or an annotation. The class of its first byte and the bytes behind that byte tell
+-- it. They tell an annotation, since the bytes behind a `{` start as the token's text does.
 unfoldable pub mark : Class → (rest : List ℕ) → Bool
 mark (OPERATOR o) rest = false
 mark OPEN rest = false
@@ -77,16 +77,16 @@ pub data Move : Type 0 where
 abbrev pub faulty-token : (at : ℕ) → Met → TextFault
 faulty-token at m = BadToken (m .fault) (place (suc at + m .byte))
 
-unfoldable pub past-token : (limit at : ℕ) → List ℕ → Option (List ℕ) → Around → Plan ℕ → Move
-past-token limit at rest none out here = STOP (faulty-token at (first-fault 0 (limit - 2) 0 rest))
-past-token limit at rest (some t) out here = ON out (cond (mark BRACE rest) here (here then token at t end)) (suc (length t))
+unfoldable pub after-token : (limit at : ℕ) → List ℕ → Option (List ℕ) → Around → Plan ℕ → Move
+after-token limit at rest none out here = STOP (faulty-token at (first-fault 0 (limit - 2) 0 rest))
+after-token limit at rest (some t) out here = ON out (cond (mark BRACE rest) here (here then token at t end)) (suc (length t))
 
 unfoldable pub move : (limit at : ℕ) → Class → List ℕ → Around → Plan ℕ → Move
 move limit at (OPERATOR o) rest out here = ON out (here then operator at o end) 0
 move limit at OPEN rest out here = ON (inside at here out) end 0
 move limit at CLOSE rest outermost here = STOP (Unmatched (place at))
 move limit at CLOSE rest (inside l before out) here = ON out (before then block l here end) 0
-move limit at BRACE rest out here = past-token limit at rest (token-text limit rest) out here
+move limit at BRACE rest out here = after-token limit at rest (token-text limit rest) out here
 move limit at BLANK rest out here = ON out here 0
 move limit at BAD rest out here = STOP (BadByte (place at))
 
@@ -111,11 +111,11 @@ read-from limit at zero out here (b ∷ bs) =
 abbrev pub read-bytes : (limit : ℕ) → List ℕ → Reading
 read-bytes limit text = read-from limit 0 0 outermost end text
 
--- 11, then 13 to 16 with 21 to 25 for 14: how many cells the plan has does not matter
+-- 11, then 13 to 16, with 21 to 25 in place of 14; how many cells the plan has does not matter
 unfoldable pub read-text : Limits → List ℕ → Reading
 read-text lim text = cond (ltb (lim .text) (length text)) (FAULT TooLong) (read-bytes (lim .token) text)
 
--- a text is accepted as a plan, or it is not read: for its fault, or as too large
+-- a text is accepted as a plan, or it is not read: because it has a fault, or because it is too large
 pub data Acceptance : Type 0 where
   ACCEPTED : Plan ℕ → Acceptance
   UNREAD : Unread → Acceptance
@@ -132,7 +132,7 @@ fit n (PLAN p) = cond (leb (cells p) n) (ACCEPTED p) (UNREAD (Overfull (place-of
 unfoldable pub read : (limit n : ℕ) → List ℕ → Acceptance
 read limit n text = fit n (read-bytes limit text)
 
--- 11, then 13 to 17 with 21 to 25 for 14, where there are n cells
+-- 11, then 13 to 17, with 21 to 25 in place of 14, where there are n cells
 unfoldable pub accept : Limits → (n : ℕ) → List ℕ → Acceptance
 accept lim n text = fit n (read-text lim text)
 

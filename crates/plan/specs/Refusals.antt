@@ -1,4 +1,5 @@
--- The table's rows 11 and 13 to 17, with 21 to 25 for 14, "given exactly when" and "place", said of the text itself and not of a reader.
+-- The table's rows 11 and 13 to 17, with 21 to 25 in place of 14. Its columns "given exactly when" and "place" are
+-- said of the text itself and not of a reader.
 use Prim.Native.Nat.{ℕ, suc, _+_, _≤_, _<_}
 use mathlib.Core.Path.{_≡_}
 use mathlib.Core.Bool.{false}
@@ -10,7 +11,7 @@ use Rattle.plan.specs.declared.TokenFault.{TokenFault}
 use Rattle.plan.specs.declared.TextFault.{TextFault}
 use Rattle.plan.specs.declared.TextFault.the-variants.{TooLong, BadByte, BadToken, Unmatched, Unclosed}
 use Rattle.plan.specs.Plan.{Operator, close-brace}
-use Rattle.plan.specs.Token.{Name, annotation}
+use Rattle.plan.specs.Token.{KeptToken, annotation}
 use Rattle.plan.specs.TokenFaults.{FirstFault}
 use Rattle.kinds.specs.Limits.{Limits}
 use Rattle.plan.specs.Reading.{Class, OPERATOR, OPEN, CLOSE, BRACE, BLANK, BAD, Mark, class, place}
@@ -23,7 +24,7 @@ pub data Faultless (limit : ℕ) : ℕ → List ℕ → ℕ → ℕ → Type 0 w
   an-operator : {d e k b : ℕ} {o : Operator} {bs : List ℕ}
       → class b ≡ OPERATOR o → Faultless limit d bs e k → Faultless limit d (b ∷ bs) e (suc k)
   a-token : {d e k b : ℕ} {bs : List ℕ} (t : List ℕ)
-      → class b ≡ BRACE → Name limit t → Faultless limit d bs e k
+      → class b ≡ BRACE → KeptToken limit t → Faultless limit d bs e k
       → Faultless limit d (b ∷ (t ++ close-brace ∷ bs)) e (suc k)
   opens : {d e k b : ℕ} {bs : List ℕ}
       → class b ≡ OPEN → Faultless limit (suc d) bs e k → Faultless limit d (b ∷ bs) e (suc k)
@@ -47,7 +48,7 @@ Begins BAD rest = ⊥
 
 -- the first fault; else the end in an open block. How many cells there are does not matter
 pub data Faulty (limit : ℕ) (text : List ℕ) : TextFault → Type 0 where
-  fault : (before rest : List ℕ) (b : ℕ) {d k : ℕ} {f : TextFault}
+  first-fault-there : (before rest : List ℕ) (b : ℕ) {d k : ℕ} {f : TextFault}
       → text ≡ before ++ b ∷ rest → Faultless limit 0 before d k → Fault limit (length before) b rest d f
       → Faulty limit text f
   unclosed : {d k : ℕ} → Faultless limit 0 text (suc d) k → Faulty limit text (Unclosed (place (length text)))

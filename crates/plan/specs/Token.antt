@@ -82,14 +82,14 @@ unfoldable pub annotation : List ℕ → Bool
 annotation [] = false
 annotation (b ∷ bs) = eqb b ampersand
 
--- a plan's own token, a name: it is allowed, and no annotation
-pub record Name (limit : ℕ) (t : List ℕ) : Type 0 where
+-- a token that reading keeps, a plan's own: it is allowed, and no annotation
+pub record KeptToken (limit : ℕ) (t : List ℕ) : Type 0 where
   pub fine : allowed limit t ≡ true
   pub own : annotation t ≡ false
 
--- a plan whose tokens are names, at any depth
+-- a plan whose tokens are kept ones, at any depth
 abbrev pub Allowed : {L : Type 0} → (limit : ℕ) → Plan L → Type 0
 Allowed limit end = Unit {0}
 Allowed limit (operator l o p) = Allowed limit p
-Allowed limit (token l t p) = Name limit t × Allowed limit p
+Allowed limit (token l t p) = KeptToken limit t × Allowed limit p
 Allowed limit (block l b p) = Allowed limit b × Allowed limit p

@@ -1,5 +1,6 @@
-// What a plan is made of, what is wrong with a text, and what READ answers. The definitions in specs/ speak of these types, so that a
-// promise is one equation.
+// What a text is: plans, tokens and their faults, annotations, reading, printing, a plan as a flat list of pieces; which texts are
+// acceptable, what READ answers, and the one way to answer; the laws of all these. The definitions in specs/ speak of the types here, so
+// that a promise is one equation.
 use kinds::Place;
 
 pub enum Operator {
@@ -43,7 +44,7 @@ pub enum TextFault {
     Unclosed(Place),
 }
 
-// Why a text is not read: for its fault, or as too large, at the first item past the cells that there are.
+// Why a text is not read: because it has a fault, or because it is too large, at the first item past the cells that there are.
 pub enum Unread {
     Text(TextFault),
     Overfull(Place),

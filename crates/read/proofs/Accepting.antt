@@ -1,4 +1,4 @@
--- What a survey says of a text is what is accepted, and why else it is not read; and what that tells of an acceptable text.
+-- What a survey says of a text tells whether the text is accepted, or else why it is not read. And what that tells of an acceptable text.
 use Prim.Native.Nat.{ℕ, _≤_, _<_}
 use mathlib.Core.Path.{_≡_, refl, ap, ap₂, sym, _∙_}
 use mathlib.Core.Bool.{true, false}
@@ -20,17 +20,17 @@ use Rattle.kinds.proofs.Tests.{never}
 use Rattle.reader.specs.Counting.{surveyed}
 use Rattle.reader.specs.declared.Surveyed.{Surveyed}
 use Rattle.reader.specs.declared.Surveyed.the-variants.{Counted, Faulty}
-use Rattle.read.specs.Accepted.{accepted-as}
-use Rattle.read.specs.declared.Acceptance.{Acceptance as Told}
-use Rattle.read.specs.declared.Acceptance.the-variants.{Accepted, NotRead}
+use Rattle.read.specs.Accepted.{acceptance-told}
+use Rattle.read.specs.declared.ToldAcceptance.{ToldAcceptance}
+use Rattle.read.specs.declared.ToldAcceptance.the-variants.{Accepted, NotRead}
 
 module _ (room : ℕ) (text : List ℕ) where
-  pub look-too-long : textLimit < length text → Faulty TooLong ≡ surveyed room (read-text standard text)
+  pub survey-too-long : textLimit < length text → Faulty TooLong ≡ surveyed room (read-text standard text)
   unfolding surveyed
-  look-too-long h = rw (text-too-long standard text h)
+  survey-too-long h = rw (text-too-long standard text h)
 
-  pub look-short : {s : Surveyed} → length text ≤ textLimit → s ≡ surveyed room (read-bytes tokenLimit text) → s ≡ surveyed room (read-text standard text)
-  look-short h e = rw (text-short standard text h) e
+  pub survey-short : {s : Surveyed} → length text ≤ textLimit → s ≡ surveyed room (read-bytes tokenLimit text) → s ≡ surveyed room (read-text standard text)
+  survey-short h e = rw (text-short standard text h) e
 
   -- a text that was looked over
   module _ {s : Surveyed} (found : s ≡ surveyed room (read-text standard text)) where
@@ -43,45 +43,45 @@ module _ (room : ℕ) (text : List ℕ) where
         go (PLAN p) h = never cc
 
     -- the plan that it reads as
-    pub record Counts (c l : ℕ) (past : Place) : Type 0 where
+    pub record Counts (c l : ℕ) (overfull : Place) : Type 0 where
       pub plan : Plan ℕ
       pub reads : read-text standard text ≡ PLAN plan
       pub counted : cells plan ≡ c
       pub sized : length (print plan) ≡ l
-      pub first-past : place-of-item room plan ≡ past
+      pub first-past : place-of-item room plan ≡ overfull
 
-    pub found-counted : {c l : ℕ} {past : Place} → s ≡ Counted c l past → Counts c l past
+    pub found-counted : {c l : ℕ} {overfull : Place} → s ≡ Counted c l overfull → Counts c l overfull
     unfolding surveyed
-    found-counted {c} {l} {past} e = go (read-text standard text) refl (sym found ∙ e)
+    found-counted {c} {l} {overfull} e = go (read-text standard text) refl (sym found ∙ e)
       where
-        go : (x : Reading) → read-text standard text ≡ x → surveyed room x ≡ Counted c l past → Counts c l past
+        go : (x : Reading) → read-text standard text ≡ x → surveyed room x ≡ Counted c l overfull → Counts c l overfull
         go (FAULT f) is h = never cc
         go (PLAN p) is h = record { plan = p; reads = is; counted = cc; sized = cc; first-past = cc }
 
-    pub accept-faulty : {f : TextFault} → s ≡ Faulty f → NotRead (Text f) ≡ accepted-as (accept standard room text)
-    unfolding accept fit accepted-as
+    pub accept-faulty : {f : TextFault} → s ≡ Faulty f → NotRead (Text f) ≡ acceptance-told (accept standard room text)
+    unfolding accept fit acceptance-told
     accept-faulty e = rw (found-faulty e)
 
-    module _ {c l : ℕ} {past : Place} (e : s ≡ Counted c l past) where
-      pub accept-over : room < c → NotRead (Overfull past) ≡ accepted-as (accept standard room text)
-      unfolding accept fit accepted-as
+    module _ {c l : ℕ} {overfull : Place} (e : s ≡ Counted c l overfull) where
+      pub accept-over : room < c → NotRead (Overfull overfull) ≡ acceptance-told (accept standard room text)
+      unfolding accept fit acceptance-told
       accept-over h =
           let k = found-counted e in
           rw (k .reads, lt-leb (cells (k .plan)) room (rw (k .counted) h)) (ap (λ p. NotRead (Overfull p)) (sym (k .first-past)))
 
-      pub accept-fits : c ≤ room → Accepted c l ≡ accepted-as (accept standard room text)
-      unfolding accept fit accepted-as
+      pub accept-fits : c ≤ room → Accepted c l ≡ acceptance-told (accept standard room text)
+      unfolding accept fit acceptance-told
       accept-fits h =
           let k = found-counted e in
           rw (k .reads, le-leb (cells (k .plan)) room (rw (k .counted) h)) (sym (ap₂ Accepted (k .counted) (k .sized)))
 
   -- what is accepted, as the code tells it
-  module _ {a : Told} (told : a ≡ accepted-as (accept standard room text)) where
+  module _ {a : ToldAcceptance} (told : a ≡ acceptance-told (accept standard room text)) where
     pub told-unread : {u : Unread} → a ≡ NotRead u → accept standard room text ≡ UNREAD u
-    unfolding accepted-as
+    unfolding acceptance-told
     told-unread {u} e = go (accept standard room text) (sym told ∙ e)
       where
-        go : (x : Acceptance) → accepted-as x ≡ NotRead u → x ≡ UNREAD u
+        go : (x : Acceptance) → acceptance-told x ≡ NotRead u → x ≡ UNREAD u
         go (UNREAD v) h = ap UNREAD (let same : v ≡ u = cc in same)
         go (ACCEPTED p) h = never cc
 
@@ -92,15 +92,15 @@ module _ (room : ℕ) (text : List ℕ) where
       pub sized : length (print plan) ≡ l
 
     pub told-plan : {c l : ℕ} → a ≡ Accepted c l → TellsPlan c l
-    unfolding accepted-as
+    unfolding acceptance-told
     told-plan {c} {l} e = go (accept standard room text) refl (sym told ∙ e)
       where
-        go : (x : Acceptance) → accept standard room text ≡ x → accepted-as x ≡ Accepted c l → TellsPlan c l
+        go : (x : Acceptance) → accept standard room text ≡ x → acceptance-told x ≡ Accepted c l → TellsPlan c l
         go (UNREAD u) is h = never cc
         go (ACCEPTED p) is h = record { plan = p; accepted = is; counted = cc; sized = cc }
 
 -- a text of which READ would tell
-module _ (text : List ℕ) {a : Told} (told : a ≡ accepted-as (accept standard cellLimit text)) where
+module _ (text : List ℕ) {a : ToldAcceptance} (told : a ≡ acceptance-told (accept standard cellLimit text)) where
   pub told-acceptable : {c l : ℕ} → a ≡ Accepted c l → (acceptable standard text ≡ true) × (length (print (plan-of tokenLimit text)) ≡ l)
   told-acceptable e =
       let k = told-plan cellLimit text told e in

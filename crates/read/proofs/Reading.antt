@@ -11,7 +11,7 @@ use Rattle.plan.specs.declared.Unread.{Unread}
 use Rattle.plan.specs.Outcomes.{GIVES}
 use Rattle.plan.specs.Pieces.{Shows, pieces}
 use Rattle.plan.specs.Plan.{Plan, print}
-use Rattle.plan.specs.Read.{as-read, read-family, reads}
+use Rattle.plan.specs.Read.{as-read, read-family, read-outcome}
 use Rattle.plan.specs.Reading.{accept}
 use Rattle.plan.proofs.Accepting.{accepted-text}
 use Rattle.plan.proofs.Outcomes.{wrote-fits, wrote-refused, wrote-short}
@@ -19,15 +19,15 @@ use Rattle.plan.proofs.ReadBack.{read-accepted}
 use Rattle.kinds.specs.Written.{put-at}
 use Rattle.kinds.proofs.Putting.{put-front}
 use Rattle.items.specs.Walk.{Tidyable}
-use Rattle.read.specs.Accepted.{accepted-as}
+use Rattle.read.specs.Accepted.{acceptance-told}
 use Rattle.read.specs.Calls.{ReadsOut}
-use Rattle.read.specs.declared.Acceptance.{Acceptance as Told}
-use Rattle.read.specs.declared.Acceptance.the-variants.{Accepted, NotRead as NotAccepted}
+use Rattle.read.specs.declared.ToldAcceptance.{ToldAcceptance}
+use Rattle.read.specs.declared.ToldAcceptance.the-variants.{Accepted, NotRead as NotAccepted}
 use Rattle.read.proofs.Accepting.{TellsPlan, told-plan, told-unread}
 
-module _ (text : List ℕ) {a : Told} (told : a ≡ accepted-as (accept standard cellLimit text)) (out : List ℕ) where
+module _ (text : List ℕ) {a : ToldAcceptance} (told : a ≡ acceptance-told (accept standard cellLimit text)) (out : List ℕ) where
   pub read-refused : {u : Unread} → a ≡ NotAccepted u → ReadsOut text out (Refused (NotRead u)) out
-  unfolding reads as-read
+  unfolding read-outcome as-read
   read-refused e = record { wrote = wrote-refused read-family out (rw (told-unread cellLimit text told e)) }
 
   -- a text that is acceptable
@@ -35,8 +35,8 @@ module _ (text : List ℕ) {a : Told} (told : a ≡ accepted-as (accept standard
     plan : TellsPlan cellLimit text told c l
     plan = told-plan cellLimit text told e
 
-    gives : reads standard text ≡ GIVES tt c (print (plan .plan))
-    unfolding reads as-read
+    gives : read-outcome standard text ≡ GIVES tt c (print (plan .plan))
+    unfolding read-outcome as-read
     gives = rw (plan .accepted, plan .counted)
 
     shown : Shows tokenLimit 0 text (pieces (plan .plan))

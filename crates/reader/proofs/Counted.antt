@@ -1,4 +1,4 @@
--- Each answer of the reader's leaves is the case of its definition that the tests before it say.
+-- The reader's leaves, case by case. The tests before an answer say which case of the leaf's definition applies. The answer is that case.
 use Prim.Native.Nat.{ℕ, _+_, _-_, _<_, _≤_}
 use mathlib.Core.Path.{_≡_, ap, sym, _∙_}
 use mathlib.Core.Bool.{Bool, true, false}
@@ -16,7 +16,7 @@ use Rattle.plan.specs.declared.Operator.{Operator}
 use Rattle.plan.specs.declared.Character.{Character}
 use Rattle.plan.specs.declared.Character.the-variants.{Whole, Malformed}
 use Rattle.plan.specs.declared.TextFault.the-variants.{BadByte, Unmatched, Unclosed}
-use Rattle.reader.specs.Counting.{nothing-yet, one-item, opened, closed, stepped, kept-or-passed, faulty, in-character, in-token, finished}
+use Rattle.reader.specs.Counting.{nothing-yet, one-item, opened, closed, stepped, kept-or-passed, token-faulty, in-character, in-token, survey-ended}
 use Rattle.reader.specs.declared.Count.{Count}
 use Rattle.plan.specs.declared.TokenFault.{TokenFault}
 use Rattle.plan.specs.declared.TokenFault.the-variants.{Empty, Long, BadUtf8, Forbidden, InnerBrace}
@@ -27,17 +27,17 @@ use Rattle.reader.specs.declared.ByteStep.{ByteStep}
 use Rattle.reader.specs.declared.ByteStep.the-variants.{On, Token, Stop}
 use Rattle.reader.specs.declared.Surveyed.the-variants.{Counted, Faulty as FaultyText}
 
-pub nothing-told : (p : Place) → p .0 ≡ 0 → record { depth = 0; cells = 0; length = 0; past = p } ≡ nothing-yet
-nothing-told p h = ap (λ k. record { depth = 0; cells = 0; length = 0; past = place k }) h
+pub nothing-told : (p : Place) → p .0 ≡ 0 → record { depth = 0; cells = 0; length = 0; overfull = p } ≡ nothing-yet
+nothing-told p h = ap (λ k. record { depth = 0; cells = 0; length = 0; overfull = place k }) h
 
 module _ (n : Count) (at room bytes : ℕ) where
   abbrev item : Place → Count
-  item p = record { depth = n .depth; cells = n .cells + 1; length = n .length + bytes; past = p }
+  item p = record { depth = n .depth; cells = n .cells + 1; length = n .length + bytes; overfull = p }
 
   pub item-past : (p : Place) → n .cells ≡ room → p .0 ≡ at → item p ≡ one-item n at room bytes
   item-past p e h = simp (eq-eqb (n .cells) room e) (ap (λ k. item (place k)) h)
 
-  pub item-within : n .cells ≢ room → item (n .past) ≡ one-item n at room bytes
+  pub item-within : n .cells ≢ room → item (n .overfull) ≡ one-item n at room bytes
   item-within e = simp (ne-eqb (n .cells) room e)
 
 module _ (n : Count) (b at room : ℕ) {k : Class} (e : k ≡ class b) where
@@ -74,12 +74,12 @@ module _ (n : Count) (at room : ℕ) where
   close-matched h = rw (ne-eqb (n .depth) 0 h)
 
 module _ (n : Count) (at : ℕ) where
-  pub end-open : (p : Place) → 0 < n .depth → p .0 ≡ at → FaultyText (Unclosed p) ≡ finished n at
-  unfolding finished
+  pub end-open : (p : Place) → 0 < n .depth → p .0 ≡ at → FaultyText (Unclosed p) ≡ survey-ended n at
+  unfolding survey-ended
   end-open p h g = rw (lt-ltb 0 (n .depth) h) (ap (λ k. FaultyText (Unclosed (place k))) g)
 
-  pub end-closed : n .depth ≤ 0 → Counted (n .cells) (n .length) (n .past) ≡ finished n at
-  unfolding finished
+  pub end-closed : n .depth ≤ 0 → Counted (n .cells) (n .length) (n .overfull) ≡ survey-ended n at
+  unfolding survey-ended
   end-closed h = rw (le-ltb 0 (n .depth) h)
 
 -- whether a mark was read, as the code found it, s, is as the text has it, t
@@ -90,26 +90,26 @@ module _ (n : Count) (at room bytes : ℕ) {s t : Bool} (e : s ≡ t) where
   pub token-counted : (m : Count) → s ≡ false → m ≡ one-item n at room bytes → m ≡ kept-or-passed t n at room bytes
   token-counted m h g = g ∙ ap (λ x. kept-or-passed x n at room bytes) (sym h ∙ e)
 
-pub faulty-told : (f : TokenFault) (p : Place) (at : ℕ) → p .0 ≡ at → Ends (Faulty f p) ≡ faulty f at
-faulty-told f p at h = ap (λ k. faulty f k) h
+pub faulty-told : (f : TokenFault) (p : Place) (at : ℕ) → p .0 ≡ at → Ends (Faulty f p) ≡ token-faulty f at
+faulty-told f p at h = ap (λ k. token-faulty f k) h
 
 -- the character y that the leaf found is the one at the place, x
 module _ (last at : ℕ) {x y : Character} (found : y ≡ x) (r : InToken) where
-  pub character-malformed : y ≡ Malformed → r ≡ faulty BadUtf8 at → r ≡ in-character last at x
+  pub character-malformed : y ≡ Malformed → r ≡ token-faulty BadUtf8 at → r ≡ in-character last at x
   unfolding in-character
   character-malformed e h = h ∙ (rw (sym found ∙ e))
 
   module _ {v w : ℕ} (e : y ≡ Whole v w) where
-    pub character-brace : v ≡ open-brace → r ≡ faulty InnerBrace at → r ≡ in-character last at x
+    pub character-brace : v ≡ open-brace → r ≡ token-faulty InnerBrace at → r ≡ in-character last at x
     unfolding in-character
     character-brace o h = h ∙ (rw (sym found ∙ e, eq-eqb v open-brace o))
 
     module _ (o : v ≢ open-brace) {t : Bool} (m : t ≡ may-hold v) where
-      pub character-forbidden : t ≡ false → r ≡ faulty Forbidden at → r ≡ in-character last at x
+      pub character-forbidden : t ≡ false → r ≡ token-faulty Forbidden at → r ≡ in-character last at x
       unfolding in-character
       character-forbidden t h = h ∙ (rw (sym found ∙ e, ne-eqb v open-brace o, sym m ∙ t))
 
-      pub character-over : t ≡ true → last ≤ at + (w - 1) → r ≡ faulty Long last → r ≡ in-character last at x
+      pub character-over : t ≡ true → last ≤ at + (w - 1) → r ≡ token-faulty Long last → r ≡ in-character last at x
       unfolding in-character
       character-over t l h = h ∙ (rw (sym found ∙ e, ne-eqb v open-brace o, sym m ∙ t, le-leb last (at + (w - 1)) l))
 
@@ -118,12 +118,12 @@ module _ (last at : ℕ) {x y : Character} (found : y ≡ x) (r : InToken) where
       character-further t l h = h ∙ (rw (sym found ∙ e, ne-eqb v open-brace o, sym m ∙ t, lt-leb last (at + (w - 1)) l))
 
 module _ (limit start at : ℕ) (text : List ℕ) (r : InToken) where
-  pub byte-end : length text ≤ at → r ≡ faulty Long (length text) → r ≡ in-token limit start at text
+  pub byte-end : length text ≤ at → r ≡ token-faulty Long (length text) → r ≡ in-token limit start at text
   unfolding in-token
   byte-end l h = h ∙ (rw (le-leb (length text) at l))
 
   module _ (l : at < length text) where
-    pub byte-empty : getD text at 0 ≡ close-brace → at ≡ start + 1 → r ≡ faulty Empty at → r ≡ in-token limit start at text
+    pub byte-empty : getD text at 0 ≡ close-brace → at ≡ start + 1 → r ≡ token-faulty Empty at → r ≡ in-token limit start at text
     unfolding in-token
     byte-empty c e h = h ∙ (rw (lt-leb (length text) at l, eq-eqb _ _ c, eq-eqb _ _ e))
 
@@ -131,7 +131,7 @@ module _ (limit start at : ℕ) (text : List ℕ) (r : InToken) where
     unfolding in-token
     byte-whole c e h = h ∙ (rw (lt-leb (length text) at l, eq-eqb _ _ c, ne-eqb _ _ e))
 
-    pub byte-last : getD text at 0 ≢ close-brace → at ≡ start + (limit - 1) → r ≡ faulty Long at → r ≡ in-token limit start at text
+    pub byte-last : getD text at 0 ≢ close-brace → at ≡ start + (limit - 1) → r ≡ token-faulty Long at → r ≡ in-token limit start at text
     unfolding in-token
     byte-last c e h = h ∙ (rw (lt-leb (length text) at l, ne-eqb _ _ c, eq-eqb _ _ e))
 

@@ -1,5 +1,5 @@
--- What the reader's outer loop knows at each place, and each turn of it on plain values: the bytes passed hold no fault, and
--- the counts are theirs. The end of the text, and a fault, are then what reading says.
+-- What the reader's outer loop knows at each place: the bytes passed hold no fault, and the counts are those of these bytes. Then each turn
+-- of the loop, on plain values. So what the loop answers at the end of the text, or at a fault, is what reading says.
 use Prim.Native.Nat.{ℕ, suc, _+_, _-_, _≤_, _<_}
 use mathlib.Core.Path.{_≡_, refl, ap, sym, _∙_, subst}
 use mathlib.Core.Bool.{Bool, true, false, cond}
@@ -18,7 +18,7 @@ use Rattle.plan.specs.Plan.{Plan, cells, labels, print}
 use Rattle.plan.specs.Reading.{Mark, PLAN, blank, OUTSIDE, class, place, place-of-item, read-bytes, without-marks}
 use Rattle.plan.specs.declared.Class.{Class}
 use Rattle.plan.specs.declared.Class.the-variants.{Operator as OPERATOR, Open as OPEN, Close as CLOSE, Brace as BRACE, Blank as BLANK, Bad as BAD}
-use Rattle.plan.specs.Refusals.{Faultless, nothing, a-mark, an-operator, opens, closes, Fault, bad-byte, unmatched, Begins, fault, unclosed}
+use Rattle.plan.specs.Refusals.{Faultless, nothing, a-mark, an-operator, opens, closes, Fault, bad-byte, unmatched, Begins, first-fault-there, unclosed}
 use Rattle.plan.specs.declared.TextFault.{TextFault}
 use Rattle.plan.specs.declared.TextFault.the-variants.{Unmatched, Unclosed}
 use Rattle.plan.proofs.Marks.{kept, mark-dropped}
@@ -28,7 +28,7 @@ use Rattle.plan.proofs.Reached.{text-read}
 use Rattle.plan.proofs.Refusals.{faulty-read, item-place}
 use Rattle.plan.proofs.Plans.{length-labels}
 use Rattle.kinds.proofs.Tests.{never}
-use Rattle.reader.specs.Counting.{Small, nothing-yet, one-item, closed, stepped, finished, surveyed}
+use Rattle.reader.specs.Counting.{Small, nothing-yet, one-item, closed, stepped, survey-ended, surveyed}
 use Rattle.reader.specs.declared.Count.{Count}
 use Rattle.reader.specs.declared.ByteStep.the-variants.{On, Token, Stop}
 use Rattle.reader.specs.declared.Surveyed.the-variants.{Counted, Faulty as FaultyText}
@@ -45,8 +45,8 @@ pub record SurveySoFar (text : List ℕ) (room : ℕ) (n : Count) (at : ℕ) : T
   pub within : at ≤ length text
   pub clean : Faultless tokenLimit 0 (take at text) (n .depth) (n .cells)
   pub keeps : length (without-marks OUTSIDE (take at text)) ≡ n .length
-  pub past : room < n .cells → PastAt text room (n .past .0) at
-  pub none-past : n .cells ≤ room → n .past .0 ≡ 0
+  pub overfull : room < n .cells → PastAt text room (n .overfull .0) at
+  pub none-past : n .cells ≤ room → n .overfull .0 ≡ 0
 
 pub survey-small : {text : List ℕ} {room at : ℕ} {n : Count} → SurveySoFar text room n at → Small n
 survey-small {text} {room} {at} g =
@@ -69,21 +69,21 @@ module _ {text : List ℕ} {room at : ℕ} {n : Count} (g : SurveySoFar text roo
       ∙ length-append (without-marks OUTSIDE (take at text)) (without-marks OUTSIDE piece)
       ∙ ap (_+ length (without-marks OUTSIDE piece)) (g .keeps)
 
-  still-past : room < n .cells → PastAt text room (n .past .0) at′
+  still-past : room < n .cells → PastAt text room (n .overfull .0) at′
   still-past h =
-      let p = g .past h in
+      let p = g .overfull h in
       record { deep = p .deep; clean = p .clean; begins = p .begins; before = omega (arith, p .before) }
 
   -- no item begins in the piece
   same-items : (d kept-bytes : ℕ) → Faultless tokenLimit (n .depth) piece d 0 → length (without-marks OUTSIDE piece) ≡ kept-bytes
-      → SurveySoFar text room (record { depth = d; cells = n .cells; length = n .length + kept-bytes; past = n .past }) at′
+      → SurveySoFar text room (record { depth = d; cells = n .cells; length = n .length + kept-bytes; overfull = n .overfull }) at′
   same-items d kept-bytes f k =
       record {
         short = g .short;
         within = within;
         clean = rw add-zero at (cleaner f);
         keeps = keeping ∙ ap (n .length +_) k;
-        past = still-past;
+        overfull = still-past;
         none-past = g .none-past;
       }
 
@@ -91,7 +91,7 @@ module _ {text : List ℕ} {room at : ℕ} {n : Count} (g : SurveySoFar text roo
   pub mark-more : (b : ℕ) (m : List ℕ) → piece ≡ b ∷ m → Mark tokenLimit b m → SurveySoFar text room n at′
   unfolding without-marks
   mark-more b m is h =
-      let counted : Count → ℕ → Count = λ n l. record { depth = n .depth; cells = n .cells; length = l; past = n .past } in
+      let counted : Count → ℕ → Count = λ n l. record { depth = n .depth; cells = n .cells; length = l; overfull = n .overfull } in
       let whole : b ∷ (m ++ []) ≡ piece = ap (b ∷_) (append-nil m) ∙ sym is in
       subst (λ x. SurveySoFar text room x at′) (ap (counted n) (add-zero (n .length)))
       (same-items (n .depth) 0 (subst (λ us. Faultless tokenLimit (n .depth) us (n .depth) 0) whole (a-mark h nothing))
@@ -100,22 +100,22 @@ module _ {text : List ℕ} {room at : ℕ} {n : Count} (g : SurveySoFar text roo
   -- one item begins, with the piece
   pub item-more : (d bytes : ℕ) → Faultless tokenLimit (n .depth) piece d 1 → length (without-marks OUTSIDE piece) ≡ bytes
       → Begins (class (getD text at 0)) (drop (suc at) text)
-      → SurveySoFar text room (record { depth = d; cells = n .cells + 1; length = n .length + bytes; past = one-item n at room bytes .past }) at′
+      → SurveySoFar text room (record { depth = d; cells = n .cells + 1; length = n .length + bytes; overfull = one-item n at room bytes .overfull }) at′
   item-more d bytes f k begins =
       record {
         short = g .short;
         within = within;
         clean = cleaner f;
         keeps = keeping ∙ ap (n .length +_) k;
-        past = go (eqb (n .cells) room) refl;
+        overfull = go (eqb (n .cells) room) refl;
         none-past = none (eqb (n .cells) room) refl;
       }
     where
-      none : (t : Bool) → eqb (n .cells) room ≡ t → n .cells + 1 ≤ room → cond t (place at) (n .past) .0 ≡ 0
+      none : (t : Bool) → eqb (n .cells) room ≡ t → n .cells + 1 ≤ room → cond t (place at) (n .overfull) .0 ≡ 0
       none true e h = let same : n .cells ≡ room = eqb-true (n .cells) room e in absurd (omega arith)
       none false e h = g .none-past (omega arith)
 
-      go : (t : Bool) → eqb (n .cells) room ≡ t → room < n .cells + 1 → PastAt text room (cond t (place at) (n .past) .0) at′
+      go : (t : Bool) → eqb (n .cells) room ≡ t → room < n .cells + 1 → PastAt text room (cond t (place at) (n .overfull) .0) at′
       go true e h =
           record { deep = n .depth; clean = rw (eqb-true (n .cells) room e) at (g .clean); begins = begins; before = later }
       go false e h = still-past (let differ : n .cells ≢ room = eqb-false (n .cells) room e in omega arith)
@@ -129,7 +129,7 @@ survey-start text room n short e =
       within = omega arith;
       clean = nothing;
       keeps = refl;
-      past = λ h. absurd (omega arith);
+      overfull = λ h. absurd (omega arith);
       none-past = λ h. refl;
     })
 
@@ -192,7 +192,7 @@ module _ {text : List ℕ} {room at : ℕ} {n : Count} (g : SurveySoFar text roo
   unfolding surveyed
   refused-here {r} f =
       rw (faulty-read {limit = tokenLimit}
-      (fault (take at text) (drop (suc at) text) here (split-at text at 0 inside) (g .clean)
+      (first-fault-there (take at text) (drop (suc at) text) here (split-at text at 0 inside) (g .clean)
       (subst (λ k. Fault tokenLimit k here (drop (suc at) text) (n .depth) r) (sym (length-take-le at text (g .within))) f)))
 
   stop-by-class : (k : Class) → class here ≡ k → (r : TextFault) → stepped n k at room ≡ Stop r → FaultyText r ≡ surveyed room (read-bytes tokenLimit text)
@@ -217,8 +217,8 @@ module _ {text : List ℕ} {room at : ℕ} {n : Count} (g : SurveySoFar text roo
 
 -- the end of the text
 pub survey-end : {text : List ℕ} {room at : ℕ} {n : Count} → SurveySoFar text room n at → length text ≤ at
-    → finished n at ≡ surveyed room (read-bytes tokenLimit text)
-unfolding finished surveyed
+    → survey-ended n at ≡ surveyed room (read-bytes tokenLimit text)
+unfolding survey-ended surveyed
 survey-end {text} {room} {at} {n} g ended = go (ltb 0 (n .depth)) refl
   where
     last : at ≡ length text
@@ -229,10 +229,10 @@ survey-end {text} {room} {at} {n} g ended = go (ltb 0 (n .depth)) refl
 
     -- item number `room` of the plan that was read begins where it was noted
     noted : {p : Plan ℕ} → read-bytes tokenLimit text ≡ PLAN p → cells p ≡ n .cells → (t : Bool) → ltb room (n .cells) ≡ t
-        → n .past ≡ place-of-item room p
+        → n .overfull ≡ place-of-item room p
     noted {p} is counted true t =
-        let w = g .past (ltb-true room (n .cells) t) in
-        let first = n .past .0 in
+        let w = g .overfull (ltb-true room (n .cells) t) in
+        let first = n .overfull .0 in
         let inside : first < length text = omega (arith, w .before, g .within) in
         let at-item = item-place tokenLimit (take first text) (drop (suc first) text) (getD text first 0) (w .clean) (w .begins)
         (ap (read-bytes tokenLimit) (sym (split-at text first 0 inside)) ∙ is) in
@@ -242,7 +242,7 @@ survey-end {text} {room} {at} {n} g ended = go (ltb 0 (n .depth)) refl
         ap place (g .none-past few ∙ sym (List·getD-eq-default (labels p) 0 (omega (arith, length-labels p))))
 
     go : (s : Bool) → ltb 0 (n .depth) ≡ s
-        → cond s (FaultyText (Unclosed (place at))) (Counted (n .cells) (n .length) (n .past)) ≡ surveyed room (read-bytes tokenLimit text)
+        → cond s (FaultyText (Unclosed (place at))) (Counted (n .cells) (n .length) (n .overfull)) ≡ surveyed room (read-bytes tokenLimit text)
     go true h =
         let deep : n .depth ≡ suc (n .depth - 1) = (let some-open = ltb-true 0 (n .depth) h in omega arith) in
         rw (faulty-read {limit = tokenLimit} (unclosed (rw deep at whole))) (ap (λ k. FaultyText (Unclosed (place k))) last)

@@ -1,5 +1,5 @@
--- What the reader's inner loop knows inside a token: the bytes taken since the `{` are whole characters that a token may
--- hold, and few enough. Each answer of `token_byte` then ends the token, goes on, or is the first fault, which reading refuses.
+-- What the reader's inner loop knows inside a token: the bytes taken since the `{` are whole characters that a token may hold, and few
+-- enough. So each answer of `token_byte` ends the token, or goes on, or is the first fault, which reading refuses.
 use Prim.Native.Nat.{ℕ, suc, _+_, _-_, _≤_, _<_}
 use mathlib.Core.Path.{_≡_, refl, ap, sym, _∙_, subst}
 use mathlib.Core.Bool.{Bool, true, false, cond}
@@ -15,7 +15,7 @@ use borrow.Author.Tests.{eqb-true, eqb-false, leb-true, leb-false}
 use Rattle.kinds.specs.Limits.{tokenLimit}
 use Rattle.kinds.specs.declared.Place.{Place}
 use Rattle.plan.specs.Plan.{open-brace, close-brace}
-use Rattle.plan.specs.Token.{Name, allowed, annotation, character, may-hold}
+use Rattle.plan.specs.Token.{KeptToken, allowed, annotation, character, may-hold}
 use Rattle.plan.specs.TokenFaults.{FirstFault, unheld}
 use Rattle.plan.specs.Reading.{an-annotation, class, mark, place, read-bytes, without-marks}
 use Rattle.plan.specs.declared.Class.{Class}
@@ -34,7 +34,7 @@ use Rattle.kinds.proofs.Tests.{never}
 use Rattle.plan.proofs.Tokens.{annotation-of}
 use Rattle.plan.proofs.Utf8.{character-width}
 use Rattle.text.specs.TokenEnds.{TokenEnds}
-use Rattle.reader.specs.Counting.{closed, faulty, in-character, in-token, kept-or-passed, stepped, surveyed}
+use Rattle.reader.specs.Counting.{closed, token-faulty, in-character, in-token, kept-or-passed, stepped, surveyed}
 use Rattle.reader.specs.declared.Count.{Count}
 use Rattle.reader.specs.declared.InToken.{InToken}
 use Rattle.reader.specs.declared.InToken.the-variants.{Further, Ends}
@@ -45,15 +45,15 @@ use Rattle.reader.proofs.SurveySoFar.{SurveySoFar, item-more, mark-more
 
 -- what an answer says of the next byte of the token whose `{` is at `start`
 data NextSays (limit start at : ℕ) (text : List ℕ) : InToken → Type 0 where
-  text-end : length text ≤ at → NextSays limit start at text (faulty Long (length text))
-  empty : at < length text → getD text at 0 ≡ close-brace → at ≡ start + 1 → NextSays limit start at text (faulty Empty at)
+  text-end : length text ≤ at → NextSays limit start at text (token-faulty Long (length text))
+  empty : at < length text → getD text at 0 ≡ close-brace → at ≡ start + 1 → NextSays limit start at text (token-faulty Empty at)
   ends : at < length text → getD text at 0 ≡ close-brace → at ≢ start + 1 → NextSays limit start at text (Ends WholeToken)
-  over : at < length text → getD text at 0 ≢ close-brace → at ≡ start + (limit - 1) → NextSays limit start at text (faulty Long at)
-  malformed : at < length text → at ≢ start + (limit - 1) → character (drop at text) ≡ Malformed → NextSays limit start at text (faulty BadUtf8 at)
+  over : at < length text → getD text at 0 ≢ close-brace → at ≡ start + (limit - 1) → NextSays limit start at text (token-faulty Long at)
+  malformed : at < length text → at ≢ start + (limit - 1) → character (drop at text) ≡ Malformed → NextSays limit start at text (token-faulty BadUtf8 at)
   unheld-character : {v w : ℕ} {f : TokenFault} → getD text at 0 ≢ close-brace → at ≢ start + (limit - 1)
-      → character (drop at text) ≡ Whole v w → may-hold v ≡ false → unheld v ≡ f → NextSays limit start at text (faulty f at)
+      → character (drop at text) ≡ Whole v w → may-hold v ≡ false → unheld v ≡ f → NextSays limit start at text (token-faulty f at)
   reaching : {v w last : ℕ} → character (drop at text) ≡ Whole v w → may-hold v ≡ true → last ≡ start + (limit - 1) → last ≤ at + (w - 1)
-      → NextSays limit start at text (faulty Long last)
+      → NextSays limit start at text (token-faulty Long last)
   further : {v w : ℕ} → character (drop at text) ≡ Whole v w → may-hold v ≡ true → at + (w - 1) < start + (limit - 1)
       → NextSays limit start at text (Further w)
 
@@ -69,7 +69,7 @@ module _ (limit start at : ℕ) (text : List ℕ) where
       other z = c (sym (ap (λ k. getD text k 0) (add-zero at)) ∙ sym (getD-drop at text 0 0) ∙ low-byte (drop at text) (omega arith) e ∙ z)
 
       go : (a : Bool) → eqb v open-brace ≡ a → (b : Bool) → may-hold v ≡ b → (d : Bool) → leb (start + (limit - 1)) (at + (w - 1)) ≡ d
-          → NextSays limit start at text (cond a (faulty InnerBrace at) (cond b (cond d (faulty Long (start + (limit - 1))) (Further w)) (faulty Forbidden at)))
+          → NextSays limit start at text (cond a (token-faulty InnerBrace at) (cond b (cond d (token-faulty Long (start + (limit - 1))) (Further w)) (token-faulty Forbidden at)))
       go true a b b′ d d′ =
           let is : v ≡ open-brace = eqb-true _ _ a in
           unheld-character c n e (sym (opening v is)) (ap unheld is ∙ open-unheld)
@@ -83,8 +83,8 @@ module _ (limit start at : ℕ) (text : List ℕ) where
     where
       go : (a : Bool) → leb (length text) at ≡ a → (b : Bool) → eqb (getD text at 0) close-brace ≡ b → (c : Bool) → eqb at (start + 1) ≡ c
           → (d : Bool) → eqb at (start + (limit - 1)) ≡ d
-          → NextSays limit start at text (cond a (faulty Long (length text)) (cond b (cond c (faulty Empty at) (Ends WholeToken))
-          (cond d (faulty Long at) (in-character (start + (limit - 1)) at (character (drop at text))))))
+          → NextSays limit start at text (cond a (token-faulty Long (length text)) (cond b (cond c (token-faulty Empty at) (Ends WholeToken))
+          (cond d (token-faulty Long at) (in-character (start + (limit - 1)) at (character (drop at text))))))
       go true a b b′ c c′ d d′ = text-end (leb-true _ _ a)
       go false a true b true c d d′ = empty (leb-false _ _ a) (eqb-true _ _ b) (eqb-true _ _ c)
       go false a true b false c d d′ = ends (leb-false _ _ a) (eqb-true _ _ b) (eqb-false _ _ c)
@@ -154,7 +154,7 @@ module _ {text : List ℕ} {room at end : ℕ} {n : Count} (i′ : TokenSoFar te
 
   -- what comes behind the `{` has a first fault: it is what reading refuses, at its own place
   refused-token : {f g : TokenFault} {k : ℕ} {p : Place} (j : ℕ) → FirstFault tokenLimit (part text at end ++ drop end text) j f → k ≡ suc at + j
-      → faulty f k ≡ Ends (Faulty g p) → FaultyText (BadToken g p) ≡ surveyed room (read-bytes tokenLimit text)
+      → token-faulty f k ≡ Ends (Faulty g p) → FaultyText (BadToken g p) ≡ surveyed room (read-bytes tokenLimit text)
   refused-token {f} {g} {k} {p} j first h e =
       let same : BadToken g p ≡ BadToken f (place k) = cc in
       ap (λ t. FaultyText t) (same ∙ ap (λ q. BadToken f (place q)) h)
@@ -174,7 +174,7 @@ module _ {text : List ℕ} {room at end : ℕ} {n : Count} (i′ : TokenSoFar te
 
   -- the same of a fault at the next byte
   refused-next : {f g : TokenFault} {k : ℕ} {p : Place} → FirstFault tokenLimit (part text at end ++ drop end text) (length (part text at end)) f
-      → k ≡ end → faulty f k ≡ Ends (Faulty g p) → FaultyText (BadToken g p) ≡ surveyed room (read-bytes tokenLimit text)
+      → k ≡ end → token-faulty f k ≡ Ends (Faulty g p) → FaultyText (BadToken g p) ≡ surveyed room (read-bytes tokenLimit text)
   refused-next first h = refused-token (length (part text at end)) first (omega (arith, h, taken, i′ .ahead))
 
   faults : {a : InToken} {f : TokenFault} {p : Place} → NextSays tokenLimit at end text a → a ≡ Ends (Faulty f p)
@@ -277,10 +277,10 @@ module _ {text : List ℕ} {room at end : ℕ} {n : Count} (i′ : TokenSoFar te
       mark-more (i′ .survey) piece (end + 1) (joined e) (omega (arith, i′ .ahead)) (omega arith) (getD text at 0) (part text at end ++ close-brace ∷ []) refl
       (an-annotation (part text at end) (i′ .brace) fine h)
   whole-token inside e fine false h =
-      let name : Name tokenLimit (part text at end) = record { fine = fine; own = h } in
+      let own-token : KeptToken tokenLimit (part text at end) = record { fine = fine; own = h } in
       item-more (i′ .survey) piece (end + 1) (joined e) (omega (arith, i′ .ahead)) (omega arith) (n .depth) (end + 1 - at)
-      (a-token (part text at end) (i′ .brace) name nothing)
-      (ap length (token-kept tokenLimit (getD text at 0) (part text at end) [] (i′ .brace) name)
+      (a-token (part text at end) (i′ .brace) own-token nothing)
+      (ap length (token-kept tokenLimit (getD text at 0) (part text at end) [] (i′ .brace) own-token)
       ∙ omega (arith, length-append (part text at end) (close-brace ∷ []), taken, i′ .ahead))
       (rw (i′ .brace) (told-behind fine ∙ h))
 

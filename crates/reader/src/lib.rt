@@ -1,7 +1,7 @@
-// Reads a text from left to right and counts; no memory is lent. An outer loop over items and an inner loop over a
-// token's bytes, left by a label at the first fault. A token that was read is an item, or an annotation, which counts for
-// nothing. Counting goes on past the room for cells, since the faults of the text come before a plan that is too large; whether it is,
-// is for the caller to say.
+// The one reader of a text: it finds the first fault and its place, or else counts the cells and the printed bytes. It needs no lent
+// memory. An outer loop goes over the items, and an inner loop over the bytes of a token. The first fault leaves both by a label. A token
+// without a fault is an item, unless it is an annotation, which counts for nothing. The reader goes on counting when there is no more room
+// for cells, because a fault later in the text outranks a plan that is too large. The caller decides whether the plan is too large.
 ghost use mathlib.Core.Path.{_≡_};
 ghost use Prim.Native.Nat.{_+_, _-_, _<_, _≤_};
 ghost use lib.ListN.{length, getD, drop};
@@ -10,7 +10,7 @@ ghost use Rattle.plan.specs.Token.{character};
 ghost use Rattle.plan.specs.Reading.{class, mark, read-bytes};
 ghost use Rattle.plan.specs.declared.Class.the-variants.{Close as CLOSE};
 ghost use Rattle.text.specs.TokenEnds.{TokenEnds};
-ghost use Rattle.reader.specs.Counting.{Small, nothing-yet, one-item, opened, stepped, kept-or-passed, faulty, in-character, in-token, finished, surveyed};
+ghost use Rattle.reader.specs.Counting.{Small, nothing-yet, one-item, opened, stepped, kept-or-passed, token-faulty, in-character, in-token, survey-ended, surveyed};
 use kinds::Place;
 use kinds::Token;
 use plan::Character;
@@ -29,7 +29,7 @@ pub struct Count {
     pub depth: u32,
     pub cells: u32,
     pub length: u32,
-    pub past: Place,
+    pub overfull: Place,
 }
 
 // What one byte outside tokens does.
@@ -45,7 +45,7 @@ pub enum TokenRead {
     Faulty { fault: TokenFault, at: Place },
 }
 
-// What the next byte of a token begins: a character of so many bytes that the token may hold, or nothing more of it.
+// What the next byte of a token begins: a character of so many bytes that the token may hold, or the end of the token's reading.
 pub enum InToken {
     Further(u32),
     Ends(TokenRead),
@@ -57,7 +57,7 @@ pub enum Surveyed {
     Counted {
         cells: u32,
         length: u32,
-        past: Place,
+        overfull: Place,
     },
     Faulty(TextFault),
 }
@@ -69,30 +69,30 @@ fn nothing_yet() -> Count
         depth: 0,
         cells: 0,
         length: 0,
-        past: Place::new(0),
+        overfull: Place::new(0),
     }
 }
 
-// One item more, of so many bytes outside its block's contents.
+// One item more, of so many bytes. A block's contents are not among these bytes.
 fn one_item(count: Count, at: usize, room: u32, bytes: u32) -> Count
     requires { ⌜ Small count × (at ≤ textLimit) × (bytes ≤ tokenLimit) ⌝ }
     ensures { λ r. ⌜ r ≡ one-item count at room bytes ⌝ }
 {
     let cells = count.cells;
-    let past = count.past;
+    let overfull = count.overfull;
     if cells == room {
         return Count {
             depth: count.depth,
             cells: cells + 1,
             length: count.length + bytes,
-            past: Place::new(at),
+            overfull: Place::new(at),
         };
     }
     Count {
         depth: count.depth,
         cells: cells + 1,
         length: count.length + bytes,
-        past,
+        overfull,
     }
 }
 
@@ -101,12 +101,12 @@ fn open_block(count: Count, at: usize, room: u32) -> Count
     ensures { λ r. ⌜ r ≡ opened count at room ⌝ }
 {
     let item = one_item(count, at, room, 1);
-    let past = item.past;
+    let overfull = item.overfull;
     Count {
         depth: item.depth + 1,
         cells: item.cells,
         length: item.length,
-        past,
+        overfull,
     }
 }
 
@@ -117,12 +117,12 @@ fn close_block(count: Count, at: usize, room: u32) -> ByteStep
     if count.depth == 0 {
         return ByteStep::Stop(TextFault::Unmatched(Place::new(at)));
     }
-    let past = count.past;
+    let overfull = count.overfull;
     ByteStep::On(Count {
         depth: count.depth - 1,
         cells: count.cells,
         length: count.length + 1,
-        past,
+        overfull,
     })
 }
 
@@ -140,9 +140,9 @@ fn read_byte(count: Count, byte: u8, at: usize, room: u32) -> ByteStep
     }
 }
 
-fn faulty(fault: TokenFault, at: usize) -> InToken
+fn token_faulty(fault: TokenFault, at: usize) -> InToken
     requires { ⌜ at ≤ textLimit ⌝ }
-    ensures { λ r. ⌜ r ≡ faulty fault at ⌝ }
+    ensures { λ r. ⌜ r ≡ token-faulty fault at ⌝ }
 {
     InToken::Ends(TokenRead::Faulty {
         fault,
@@ -150,51 +150,51 @@ fn faulty(fault: TokenFault, at: usize) -> InToken
     })
 }
 
-// The character at a place, in a token that may have no byte behind `last`, its `}`: a fault of its own comes first, since it stands
-// before that byte.
+// The character at a place of a token. The token may have no byte behind `last`, which has to be its `}`. A fault of the character's own
+// comes first, since it stands before that byte.
 fn token_character(text: &[u8], last: usize, at: usize) -> InToken
     requires { ⌜ (length (now text) ≤ textLimit) × (at < last) × (at < length (now text)) ⌝ }
     ensures { λ r. ⌜ r ≡ in-character last at (character (drop at (now (text .entry)))) ⌝ }
 {
     let Character::Whole { value, width } = character_at(text, at) else {
-        return faulty(TokenFault::BadUtf8, at);
+        return token_faulty(TokenFault::BadUtf8, at);
     };
-    // A fault of its own stands at its first byte; whether it reaches the last one is asked of its last.
+    // The character's own fault stands at its first byte. Whether it reaches `last` is asked of its last byte.
     let reached = at + (width as usize - 1);
     if value == OPEN_BRACE {
-        return faulty(TokenFault::InnerBrace, at);
+        return token_faulty(TokenFault::InnerBrace, at);
     }
     if !may_hold(value) {
-        return faulty(TokenFault::Forbidden, at);
+        return token_faulty(TokenFault::Forbidden, at);
     }
     if last <= reached {
-        return faulty(TokenFault::Long, last);
+        return token_faulty(TokenFault::Long, last);
     }
     InToken::Further(width)
 }
 
-// The next byte of the token whose `{` is at `start`: its 64th byte is the last that there may be, and has to be its `}`.
+// The next byte of the token whose `{` is at `start`. The token's 64th byte is the last that it may have, and has to be its `}`.
 fn token_byte(text: &[u8], start: usize, at: usize) -> InToken
     requires { ⌜ (length (now text) ≤ textLimit) × (start < at) × (at < start + tokenLimit) × (at ≤ length (now text)) ⌝ }
     ensures { λ r. ⌜ r ≡ in-token tokenLimit start at (now (text .entry)) ⌝ }
 {
     if text.len() <= at {
-        return faulty(TokenFault::Long, text.len());
+        return token_faulty(TokenFault::Long, text.len());
     }
     if text[at] == b'}' {
         if at == start + 1 {
-            return faulty(TokenFault::Empty, at);
+            return token_faulty(TokenFault::Empty, at);
         }
         return InToken::Ends(TokenRead::Whole);
     }
     let last = start + (Token::LIMIT - 1);
     if at == last {
-        return faulty(TokenFault::Long, at);
+        return token_faulty(TokenFault::Long, at);
     }
     token_character(text, last, at)
 }
 
-// A token that was read to its `}`: an item is kept, a mark passed over.
+// A token that was read to its `}`. It is kept as an item, or passed over where it is a mark.
 fn whole_token(text: &[u8], count: Count, at: usize, end: usize, room: u32) -> Count
     requires { ⌜ Small count × TokenEnds (now text) at end ⌝ }
     ensures { λ r. ⌜ r ≡ kept-or-passed (mark (class (getD (now (text .entry)) at 0)) (drop (at + 1) (now (text .entry)))) count at room (end + 1 - at) ⌝ }
@@ -206,18 +206,18 @@ fn whole_token(text: &[u8], count: Count, at: usize, end: usize, room: u32) -> C
 }
 
 // The end of the text.
-fn finish(count: Count, at: usize) -> Surveyed
+fn end_survey(count: Count, at: usize) -> Surveyed
     requires { ⌜ at ≤ textLimit ⌝ }
-    ensures { λ r. ⌜ r ≡ finished count at ⌝ }
+    ensures { λ r. ⌜ r ≡ survey-ended count at ⌝ }
 {
     if 0 < count.depth {
         return Surveyed::Faulty(TextFault::Unclosed(Place::new(at)));
     }
-    let past = count.past;
+    let overfull = count.overfull;
     Surveyed::Counted {
         cells: count.cells,
         length: count.length,
-        past,
+        overfull,
     }
 }
 
@@ -229,7 +229,7 @@ pub fn survey(text: &[u8], room: u32) -> Surveyed
     let mut at: usize = 0;
     let fault = 'items: loop {
         if text.len() <= at {
-            return finish(count, at);
+            return end_survey(count, at);
         }
         match read_byte(count, text[at], at, room) {
             ByteStep::On(next) => {

@@ -1,4 +1,4 @@
--- A place in a plan, behind items X and before items p of one sequence in a frame, and what may stand there: the chain, the
+-- A place in a plan: it is in one sequence in a frame, behind the items X and before the items p. Whatever stands there, the chain, the
 -- labels and the items of the plan are those around the place and those of what stands there.
 use Prim.Native.Nat.{ℕ, _/_}
 use mathlib.Core.Path.{_≡_, ap, sym, _∙_, subst}

@@ -1,6 +1,6 @@
--- What the splices make of a plan that is held: a block taken out stands beside the plan, one beside it is put in anywhere, a
--- block is opened, an operator leaves. A store at a link of the chain leaves what every cell says as it was, so the items go
--- by the old plan until all links are stored.
+-- What the splices make of a plan that is held. There are four moves. A block is taken out, and stands beside the plan. A block beside the
+-- plan is put in anywhere. A block is opened. An operator leaves. A store at a link of the chain leaves what every cell says as it was. So
+-- the items go by the old plan until all links are stored.
 use Prim.Native.Nat.{ℕ, _+_, _*_, _/_, _≤_, _<_}
 use mathlib.Core.Path.{_≡_, refl, ap, sym, _∙_, subst}
 use mathlib.Core.List.{List, [], _∷_, _++_, append-assoc, append-nil}

@@ -1,5 +1,5 @@
--- A rewrite once its operator is out of the plan: by which operator it is, what its rule finds in the memory, and that what the
--- rule makes of it is the rewrite.
+-- A rewrite, once its operator is out of the plan. For each operator: what its rule finds in the memory, and that
+-- what the rule makes of this is the rewrite.
 use Prim.Native.Nat.{ℕ, _≤_, _<_}
 use mathlib.Core.Path.{_≡_, ap, sym, _∙_, subst}
 use mathlib.Core.List.{List, _∷_}

@@ -1,5 +1,5 @@
--- Ports cut out of a chain and ports put into it, on plain lists: the chain is linked again, and what does not stand in the
--- chain at the place of a store keeps its links.
+-- Ports cut out of a chain and ports put into it, on plain lists. The chain is linked again. Ports keep their
+-- links, except those at the place of a store.
 use Prim.Native.Nat.{ℕ, _+_, _*_, _<_}
 use mathlib.Core.Path.{_≡_, refl, ap, sym, subst}
 use mathlib.Core.List.{List, [], _∷_, _++_, append-assoc}
@@ -30,7 +30,7 @@ pub first-split : (xs : List ℕ) (y : ℕ) (ys : List ℕ) → HasFirst (xs ++ 
 first-split [] y ys = record { first = y; rest = ys; parts = refl }
 first-split (x ∷ xs) y ys = record { first = x; rest = xs ++ y ∷ ys; parts = refl }
 
--- a run in the middle left out
+-- the middle left out
 pub distinct-without : (xs ms ys : List ℕ) → Distinct (xs ++ (ms ++ ys)) → Distinct (xs ++ ys)
 distinct-without xs ms ys d = distinct-split ms (xs ++ ys) (distinct-swap xs ms ys d) .1
 
@@ -73,7 +73,7 @@ module _ (w xs : List ℕ) (x : ℕ) (ms : List ℕ) (z y : ℕ) (ys : List ℕ)
       linked-tail w x [] h = tt
       linked-tail w x (y ∷ ys) h = h .1
 
--- the run from u over us to z is put in behind the port x
+-- the ports from u over us to z are put in behind the port x
 pub put-in-linked : (w xs : List ℕ) (x u : ℕ) (us : List ℕ) (z y : ℕ) (ys : List ℕ) → Distinct (xs ++ x ∷ ((u ∷ us) ++ z ∷ y ∷ ys))
     → 2 * x + 1 < length w → 2 * z + 1 < length w → Linked w (xs ++ x ∷ y ∷ ys) → Linked w ((u ∷ us) ++ z ∷ [])
     → Linked (put-in w x u z) (xs ++ x ∷ ((u ∷ us) ++ z ∷ y ∷ ys))

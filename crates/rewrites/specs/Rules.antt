@@ -1,5 +1,5 @@
--- What each rewrite makes of the plan that the memory holds. The sequence that it is made in stands in a frame, with items X
--- before the blocks and p behind them.
+-- What each rewrite makes of the plan that the memory holds. The rewrite is made in one sequence, which stands in a frame. In that sequence
+-- the items X stand before the blocks and the items p behind them.
 use Prim.Native.Nat.{ℕ, _≤_}
 use mathlib.Core.Path.{_≡_}
 use mathlib.Core.List.{List}
@@ -72,7 +72,7 @@ RuleD m h m′ h′ before newer =
     (text : List ℕ) (f : Frame ℕ) (X A p : Plan ℕ) → before ≡ at-end (h .outer .0) f X
     → HeldIn text m h (plug f (X then block newer A p)) → HeldIn text m′ h′ (plug f (X then p))
 
--- the memory holds the plan with q in the frame, the rewrite at the spot gives q′ there, and that finds room
+-- the memory holds the plan with q in the frame; the rewrite at the spot makes q′ of q; and the plan with q′ there finds room
 pub record Rewrites (text m : List ℕ) (h : Held) (spot : Spot) (f : Frame ℕ) (q q′ : Plan ℕ) : Type 0 where
   pub held : HeldIn text m h (plug f q)
   pub stands : Stands spot (cell-of (h .outer .0) f) q q′

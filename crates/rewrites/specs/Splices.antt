@@ -1,5 +1,5 @@
--- The links that a rewrite moves, on plain values: ports are cut out of the chain, a run of linked ports is put in, a cell is
--- free again. The code's functions promise exactly these; that a rewrite is made of them is proved of these alone.
+-- The links that a rewrite moves, on plain values: ports are cut out of the chain, linked ports are put in, a cell is free again.
+-- The code's functions promise exactly these moves. That a rewrite is made of them is proved of the moves alone.
 use Prim.Native.Nat.{ℕ, _+_, _*_}
 use mathlib.Core.Path.{_≡_}
 use mathlib.Core.List.{List}
@@ -25,12 +25,12 @@ moved w before c after = put-in (cut w before (close c)) after (start c) (close 
 unfoldable pub released : List ℕ → (free c : ℕ) → List ℕ
 released w free c = set w (2 * start c + 1) free
 
--- The contents of the block at the cell c, which end at the port `last`, stand in its place, and its cell is free. The end goes
--- first: where the block is empty, its last port is its own start.
+-- The contents of the block at the cell c end at the port `last`. They stand in the block's place, and its cell is free. The link at their
+-- end is stored first: where the block is empty, its last port is its own start.
 unfoldable pub unwrapped : List ℕ → (free before c last : ℕ) → List ℕ
 unwrapped w free before c last = released (cut (cut w last (close c)) before (start c)) free c
 
--- the memory with what is kept beside it is v afterwards, with that first free cell
+-- afterwards the memory, with what is kept beside it, is v, and `spare` is the first free cell
 pub record Spliced (m : List ℕ) (h : Held) (m′ : List ℕ) (h′ : Held) (v : List ℕ) (spare : ℕ) : Type 0 where
   pub numbers : held-numbers m′ h′ ≡ v
   pub free : h′ .free .0 ≡ spare

@@ -1,6 +1,6 @@
-// The four rewrites of a plan in the memory. The operator leaves the chain first; then a moves the older block to the end of
-// the newer one and opens that, b moves the older block to the front of the newer one, c copies, d drops. Only links move: no
-// item is copied but by c, and a cell that leaves the plan is free at once.
+// Makes the rewrite of a ready operator in the memory: links move, c copies, d frees. The operator leaves the chain first. Then a moves the
+// older block to the end of the newer one and opens that, b moves the older block to the front of the newer one, c copies, d drops. Except
+// for the copy of c, only links move. A cell that leaves the plan is free at once.
 ghost use mathlib.Core.Path.{_≡_};
 ghost use Prim.Native.Nat.{_≤_, _<_};
 ghost use Rattle.memory.specs.Held.{held-numbers};
@@ -20,7 +20,7 @@ use memory::link_of;
 use memory::set_link;
 use plan::Operator;
 
-// Lets a port link to what stands behind another one: the ports between them, and that one, are out of the chain.
+// Lets the port `after` link to what stands behind the port `last`. The ports between them, and `last` itself, are then out of the chain.
 fn cut(memory: &mut [u32], held: Held, after: Port, last: Port) -> Held
     requires { ⌜ Lent (held .outer .0) (now memory) × (after .0 ≤ start (held .outer .0)) × (last .0 ≤ start (held .outer .0)) ⌝ }
     ensures { λ r. ⌜ Spliced (now (memory .entry)) held (now (memory .exit)) r (cut (held-numbers (now (memory .entry)) held) (after .0) (last .0)) (held .free .0) ⌝ }
@@ -33,7 +33,7 @@ fn cut(memory: &mut [u32], held: Held, after: Port, last: Port) -> Held
     Held { outer, first, free }
 }
 
-// Puts a run of linked ports behind a port.
+// Puts linked ports, in a row, behind a port.
 fn put_in(memory: &mut [u32], held: Held, after: Port, head: Port, tail: Port) -> Held
     requires { ⌜ Lent (held .outer .0) (now memory) × (after .0 ≤ start (held .outer .0)) × (tail .0 ≤ start (held .outer .0)) ⌝ }
     ensures { λ r. ⌜ Spliced (now (memory .entry)) held (now (memory .exit)) r (put-in (held-numbers (now (memory .entry)) held) (after .0) (head .0) (tail .0)) (held .free .0) ⌝ }
@@ -93,7 +93,7 @@ fn unwrap(memory: &mut [u32], held: Held, before: Port, block: Cell, last: Port)
     release(memory, begun, block)
 }
 
-// The rule of a, once its operator is out: the older block behind the contents of the newer one, which is opened.
+// The rule of a, once its operator is out. The older block goes behind the contents of the newer one, and the newer one is opened.
 fn rule_a(memory: &mut [u32], held: Held, before: Port, older: Cell, newer: Cell) -> Held
     requires { ⌜ TwoBlocks (now memory) held (before .0) (older .0) (newer .0) ⌝ }
     ensures changed { λ r. ⌜ RuleA (now (memory .entry)) held (now (memory .exit)) r (before .0) (older .0) (newer .0) ⌝ }
@@ -107,7 +107,7 @@ fn rule_a(memory: &mut [u32], held: Held, before: Port, older: Cell, newer: Cell
     unwrap(memory, joined, before, newer, Port::close(older))
 }
 
-// The rule of b, once its operator is out: the older block before the contents of the newer one.
+// The rule of b, once its operator is out. The older block goes before the contents of the newer one.
 fn rule_b(memory: &mut [u32], held: Held, before: Port, older: Cell, newer: Cell) -> Held
     requires { ⌜ TwoBlocks (now memory) held (before .0) (older .0) (newer .0) ⌝ }
     ensures changed { λ r. ⌜ RuleB (now (memory .entry)) held (now (memory .exit)) r (before .0) (older .0) (newer .0) ⌝ }
@@ -117,7 +117,7 @@ fn rule_b(memory: &mut [u32], held: Held, before: Port, older: Cell, newer: Cell
     move_block(memory, held, before, older, Port::start(newer))
 }
 
-// The rule of c, once its operator is out: a copy of the block behind it.
+// The rule of c, once its operator is out. A copy of the block goes behind it.
 fn rule_c(text: &[u8], memory: &mut [u32], held: Held, newer: Cell) -> Held
     requires { ⌜ OneBlock (now text) (now memory) held (newer .0) ⌝ }
     ensures changed { λ r. ⌜ RuleC (now (text .entry)) (now (memory .entry)) held (now (memory .exit)) r (newer .0) ⌝ }
@@ -136,7 +136,7 @@ fn rule_c(text: &[u8], memory: &mut [u32], held: Held, newer: Cell) -> Held
     )
 }
 
-// The rule of d, once its operator is out: the block leaves the plan, and its cells are free.
+// The rule of d, once its operator is out. The block leaves the plan, and its cells are free.
 fn rule_d(memory: &mut [u32], held: Held, before: Port, newer: Cell) -> Held
     requires { ⌜ DropBlock (now memory) held (before .0) (newer .0) ⌝ }
     ensures changed { λ r. ⌜ RuleD (now (memory .entry)) held (now (memory .exit)) r (before .0) (newer .0) ⌝ }

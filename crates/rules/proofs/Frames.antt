@@ -1,6 +1,6 @@
--- Laws of what stands around a sequence: the labels and the cells of a plan are those before the sequence, its own and those
--- behind it. And the order's own definition, taken apart along a plan: at a sequence's opening, past each of its items, into a
--- block and out of it again.
+-- Laws of what stands around a sequence. The labels of a plan are those before the sequence, its own and those behind it. The
+-- same holds of its cells. Then the order's own definition, taken apart along a plan: at a sequence's opening, past each of its
+-- items, into a block and out of it again.
 use Prim.Native.Nat.{_+_}
 use mathlib.Core.Path.{_≡_, refl, ap, sym, _∙_}
 use mathlib.Core.List.{List, [], _∷_, _++_, append-assoc, append-nil}
@@ -9,10 +9,10 @@ use native.Mathlib.Omega.{arith}
 use Rattle.rules.specs.Frames.{Frame, top, within, plug, beyond, Ahead, Inside}
 use Rattle.plan.specs.Options.{_else_, under}
 use Rattle.plan.specs.Plan.{Plan, end, block, _then_, cells, labels, relabel, bare}
-use Rattle.rules.specs.Rewriting.{outer, inner, next}
+use Rattle.rules.specs.Rewriting.{leftmost, inner, next}
 use Rattle.plan.proofs.Options.{under-rest, under-under}
 use Rattle.plan.proofs.Plans.{cells-then, labels-then, relabel-then, then-assoc, then-end}
-use Rattle.rules.proofs.Rewrites.{inner-after, outer-first}
+use Rattle.rules.proofs.Rewrites.{inner-after, leftmost-first}
 
 module _ {L : Type 0} where
   -- the labels before those of the sequence, its own block's among them, and those behind
@@ -58,11 +58,11 @@ module _ {L : Type 0} where
       go (some p) = refl
 
   module _ {t : Plan L} {f : Frame L} where
-    pub found-ahead : {q q′ : Plan L} → Ahead t f q → outer q ≡ some q′ → next t ≡ some (plug f q′)
+    pub found-ahead : {q q′ : Plan L} → Ahead t f q → leftmost q ≡ some q′ → next t ≡ some (plug f q′)
     unfolding under _else_
-    found-ahead {q} h e = h .first ∙ ap (λ x. under (plug f) x else beyond f q) (outer-first q e)
+    found-ahead {q} h e = h .first ∙ ap (λ x. under (plug f) x else beyond f q) (leftmost-first q e)
 
-    pub none-ahead : {q : Plan L} → Ahead t f q → outer q ≡ none → Inside t f end q
+    pub none-ahead : {q : Plan L} → Ahead t f q → leftmost q ≡ none → Inside t f end q
     unfolding _then_
     none-ahead {q} h e =
         record { there = h .there; first = h .first ∙ ap (λ x. under (plug f) x else beyond f q) (inner-after q e) }

@@ -1,4 +1,4 @@
--- The order's choice in a sequence is the leftmost ready operator, counted by number: `outer` rewrites that one and nothing else,
+-- The order's choice in a sequence is the leftmost ready operator, counted by number: `leftmost` rewrites that one and nothing else,
 -- and finds none exactly when no item is a ready operator. An item that is passed moves every number by one; a block may be passed
 -- where it is no part of a rewrite, since then the operators behind it are as ready without it.
 use Prim.Native.Nat.{ℕ, zero, suc, _+_, _<_, _≤_}
@@ -6,13 +6,13 @@ use mathlib.Core.Path.{_≡_, refl, ap, sym, subst, _∙_}
 use mathlib.Core.Logic.{_↔_}
 use mathlib.Core.Option.{Option, none, some}
 use native.Mathlib.Omega.{arith}
-use Rattle.rules.specs.Frames.{lead, made}
+use Rattle.rules.specs.Frames.{lead, rule-makes}
 use Rattle.rules.specs.Leftmost.{takes, ReadyBehind, ReadyAt, items, RewrittenAt, LeftmostRewritten}
 use Rattle.plan.specs.Options.{_else_, under}
 use Rattle.plan.specs.declared.Operator.{Operator}
 use Rattle.plan.specs.declared.Operator.the-variants.{A as op-a, B as op-b, C as op-c, D as op-d}
 use Rattle.plan.specs.Plan.{Plan, end, operator, token, block, _then_}
-use Rattle.rules.specs.Rewriting.{after-two, first-block, outer}
+use Rattle.rules.specs.Rewriting.{after-two, first-block, leftmost}
 use Rattle.plan.proofs.Options.{Each, some-is-not-none}
 use Rattle.plan.proofs.Plans.{then-assoc}
 
@@ -134,7 +134,7 @@ module _ {L : Type 0} where
 
   -- the operator right behind the blocks that it takes, with nothing before them
   at-once : (o : Operator) (l : L) (B : Plan L) (m : L) (A : Plan L) (n : L) (p : Plan L)
-      → RewrittenAt (lead o l B then block m A (operator n o p)) (takes o) (made o l B m A p)
+      → RewrittenAt (lead o l B then block m A (operator n o p)) (takes o) (rule-makes o l B m A p)
   unfolding items _then_
   at-once o l B m A n p =
       record {
@@ -186,29 +186,29 @@ module _ {L : Type 0} where
   else-chosen p none z h c = c refl
   else-chosen p (some q) z h c = h
 
-  chosen : (p : Plan L) → Chosen p (outer p)
-  unfolding outer _then_ items
+  chosen : (p : Plan L) → Chosen p (leftmost p)
+  unfolding leftmost _then_ items
   chosen end = λ i r. r
   chosen (operator l o p) =
       let item : Passed (operator l o end) p =
       record { one = refl; first = λ r. omega (arith, takes-one o); back = λ i r. r; on = λ i r. r } in
-      passed item (outer p) (chosen p)
+      passed item (leftmost p) (chosen p)
   chosen (token l t p) =
       let item : Passed (token l t end) p = record { one = refl; first = λ r. r; back = λ i r. r; on = λ i r. r } in
-      passed item (outer p) (chosen p)
+      passed item (leftmost p) (chosen p)
   chosen (block l A p) =
       let after = chosen p in
       let item : first-block l A p ≡ none → Passed (block l A end) p =
       λ e. record { one = refl; first = λ r. r; back = λ i. behind-one l A p i e; on = λ i. more-blocks p i (omega arith) } in
-      else-chosen (block l A p) (first-block l A p) _ (first-block-chosen l A p) (λ e. passed (item e) (outer p) after)
+      else-chosen (block l A p) (first-block l A p) _ (first-block-chosen l A p) (λ e. passed (item e) (leftmost p) after)
 
   -- "the leftmost of those is rewritten"
-  pub outer-rewrites-leftmost : (p : Plan L) {q : Plan L} → outer p ≡ some q → LeftmostRewritten p q
-  outer-rewrites-leftmost p e = subst (Chosen p) e (chosen p)
+  pub leftmost-rewritten : (p : Plan L) {q : Plan L} → leftmost p ≡ some q → LeftmostRewritten p q
+  leftmost-rewritten p e = subst (Chosen p) e (chosen p)
 
   -- and none is exactly where no operator of the sequence is ready
-  pub outer-none-iff : (p : Plan L) → (outer p ≡ none) ↔ ((i : ℕ) → ReadyAt p i → ⊥)
-  outer-none-iff p = (λ e. subst (Chosen p) e (chosen p), go (outer p) (chosen p))
+  pub leftmost-none-iff : (p : Plan L) → (leftmost p ≡ none) ↔ ((i : ℕ) → ReadyAt p i → ⊥)
+  leftmost-none-iff p = (λ e. subst (Chosen p) e (chosen p), go (leftmost p) (chosen p))
     where
       go : (y : Option (Plan L)) → Chosen p y → ((i : ℕ) → ReadyAt p i → ⊥) → y ≡ none
       go none c stuck = refl

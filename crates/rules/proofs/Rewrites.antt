@@ -9,7 +9,7 @@ use native.Mathlib.Omega.{arith}
 use Rattle.plan.specs.declared.Operator.the-variants.{A as op-a, B as op-b, C as op-c, D as op-d}
 use Rattle.plan.specs.Plan.{Plan, end, operator, token, block, _then_, cells, relabel, changed, renamed, WithoutC}
 use Rattle.plan.specs.Token.{Allowed}
-use Rattle.rules.specs.Rewriting.{_⟶_, rule-a, rule-b, rule-c, rule-d, past-operator, past-token, past-block, within, after-two, first-block, outer, inner, next, finished}
+use Rattle.rules.specs.Rewriting.{_⟶_, rule-a, rule-b, rule-c, rule-d, past-operator, past-token, past-block, in-block, after-two, first-block, leftmost, inner, next, finished}
 use Rattle.plan.specs.Options.{_else_, is-none, under}
 use Rattle.plan.proofs.Options.{Each, else-each, else-left, else-right, else-either, none-when, under-each, under-is-some, under-none, under-else, under-same, under-square, under-under, some-under, else-front}
 use Rattle.plan.proofs.Plans.{allowed-then, cells-then, changed-then, relabel-changed, then-assoc}
@@ -37,13 +37,13 @@ module _ {L : Type 0} where
   first-block-step l A (token n t p) = tt
   first-block-step l A (block m B p) = after-two-step l A m B p
 
-  pub outer-step : (p : Plan L) → Each (_⟶_ p) (outer p)
-  unfolding outer
-  outer-step end = tt
-  outer-step (operator l o p) = under-each (operator l o) (_⟶_ p) _ (λ r. past-operator) (outer p) (outer-step p)
-  outer-step (token l t p) = under-each (token l t) (_⟶_ p) _ (λ r. past-token) (outer p) (outer-step p)
-  outer-step (block l A p) =
-      let after = under-each (block l A) (_⟶_ p) (_⟶_ (block l A p)) (λ r. past-block) (outer p) (outer-step p) in
+  pub leftmost-step : (p : Plan L) → Each (_⟶_ p) (leftmost p)
+  unfolding leftmost
+  leftmost-step end = tt
+  leftmost-step (operator l o p) = under-each (operator l o) (_⟶_ p) _ (λ r. past-operator) (leftmost p) (leftmost-step p)
+  leftmost-step (token l t p) = under-each (token l t) (_⟶_ p) _ (λ r. past-token) (leftmost p) (leftmost-step p)
+  leftmost-step (block l A p) =
+      let after = under-each (block l A) (_⟶_ p) (_⟶_ (block l A p)) (λ r. past-block) (leftmost p) (leftmost-step p) in
       else-each _ (first-block l A p) _ (first-block-step l A p) after
 
   pub inner-step : (p : Plan L) → Each (_⟶_ p) (inner p)
@@ -52,37 +52,37 @@ module _ {L : Type 0} where
   inner-step (operator l o p) = under-each (operator l o) (_⟶_ p) _ (λ r. past-operator) (inner p) (inner-step p)
   inner-step (token l t p) = under-each (token l t) (_⟶_ p) _ (λ r. past-token) (inner p) (inner-step p)
   inner-step (block l A p) =
-      let inside = else-each (_⟶_ A) (outer A) (inner A) (outer-step A) (inner-step A) in
-      let around = under-each (λ B. block l B p) (_⟶_ A) (_⟶_ (block l A p)) (λ r. within) _ inside in
+      let inside = else-each (_⟶_ A) (leftmost A) (inner A) (leftmost-step A) (inner-step A) in
+      let around = under-each (λ B. block l B p) (_⟶_ A) (_⟶_ (block l A p)) (λ r. in-block) _ inside in
       let after = under-each (block l A) (_⟶_ p) (_⟶_ (block l A p)) (λ r. past-block) (inner p) (inner-step p) in
-      else-each _ (under (λ B. block l B p) (outer A else inner A)) _ around after
+      else-each _ (under (λ B. block l B p) (leftmost A else inner A)) _ around after
 
   pub next-step : (p : Plan L) {q : Plan L} → next p ≡ some q → p ⟶ q
   unfolding next
-  next-step p h = rw h at (else-each (_⟶_ p) (outer p) (inner p) (outer-step p) (inner-step p))
+  next-step p h = rw h at (else-each (_⟶_ p) (leftmost p) (inner p) (leftmost-step p) (inner-step p))
 
   -- .. and where a rule fits, there is a next one.
-  pub ready : {p q : Plan L} → p ⟶ q → IsSome (outer p) ⊎ IsSome (inner p)
-  unfolding outer inner first-block after-two _else_
+  pub ready : {p q : Plan L} → p ⟶ q → IsSome (leftmost p) ⊎ IsSome (inner p)
+  unfolding leftmost inner first-block after-two _else_
   ready rule-a = inl tt
   ready rule-b = inl tt
   ready rule-c = inl tt
   ready rule-d = inl tt
-  ready (past-operator {p} s) = ⊎-map (under-is-some _ (outer p)) (under-is-some _ (inner p)) (ready s)
-  ready (past-token {p} s) = ⊎-map (under-is-some _ (outer p)) (under-is-some _ (inner p)) (ready s)
+  ready (past-operator {p} s) = ⊎-map (under-is-some _ (leftmost p)) (under-is-some _ (inner p)) (ready s)
+  ready (past-token {p} s) = ⊎-map (under-is-some _ (leftmost p)) (under-is-some _ (inner p)) (ready s)
   ready (past-block {l} {A} {p} s) =
       ⊎-map
-      (λ h. else-right (first-block l A p) _ (under-is-some (block l A) (outer p) h))
-      (λ h. else-right (under (λ B. block l B p) (outer A else inner A)) _ (under-is-some (block l A) (inner p) h))
+      (λ h. else-right (first-block l A p) _ (under-is-some (block l A) (leftmost p) h))
+      (λ h. else-right (under (λ B. block l B p) (leftmost A else inner A)) _ (under-is-some (block l A) (inner p) h))
       (ready s)
-  ready (within {l} {A} {p} s) =
-      let inside = else-either (outer A) (inner A) (ready s) in
-      let around = under-is-some (λ B. block l B p) (outer A else inner A) inside in
-      inr (else-left (under (λ B. block l B p) (outer A else inner A)) _ around)
+  ready (in-block {l} {A} {p} s) =
+      let inside = else-either (leftmost A) (inner A) (ready s) in
+      let around = under-is-some (λ B. block l B p) (leftmost A else inner A) inside in
+      inr (else-left (under (λ B. block l B p) (leftmost A else inner A)) _ around)
 
   pub next-finished : (p : Plan L) → next p ≡ none → {q : Plan L} → p ⟶ q → ⊥
   unfolding next
-  next-finished p h s = rw h at (else-either (outer p) (inner p) (ready s))
+  next-finished p h s = rw h at (else-either (leftmost p) (inner p) (ready s))
 
   pub finished-iff : (p : Plan L) → (next p ≡ none) ↔ ((q : Plan L) → p ⟶ q → ⊥)
   finished-iff p = (λ h q s. next-finished p h s, go (next p) refl)
@@ -96,11 +96,11 @@ module _ {L : Type 0} where
   finished-when p = (λ h. finished-iff p .0 (none-when (next p) .0 h), λ stuck. none-when (next p) .1 (finished-iff p .1 stuck))
 
   -- The order: a ready operator of the sequence itself goes before those inside its blocks.
-  pub outer-first : (p : Plan L) {q : Plan L} → outer p ≡ some q → next p ≡ some q
+  pub leftmost-first : (p : Plan L) {q : Plan L} → leftmost p ≡ some q → next p ≡ some q
   unfolding next _else_
-  outer-first p h = rw h
+  leftmost-first p h = rw h
 
-  pub inner-after : (p : Plan L) → outer p ≡ none → next p ≡ inner p
+  pub inner-after : (p : Plan L) → leftmost p ≡ none → next p ≡ inner p
   unfolding next _else_
   inner-after p h = rw h
 
@@ -133,7 +133,7 @@ module _ {L : Type 0} where
   step-allowed limit (past-operator s) h = step-allowed limit s h
   step-allowed limit (past-token s) h = (h .0, step-allowed limit s (h .1))
   step-allowed limit (past-block s) h = (h .0, step-allowed limit s (h .1))
-  step-allowed limit (within s) h = (step-allowed limit s (h .0), h .1)
+  step-allowed limit (in-block s) h = (step-allowed limit s (h .0), h .1)
 
   pub without-c-then : (p q : Plan L) → WithoutC p → WithoutC q → WithoutC (p then q)
   unfolding _then_
@@ -150,7 +150,7 @@ module _ {L : Type 0} where
   step-without-c (past-operator s) h = (h .0, step-without-c s (h .1))
   step-without-c (past-token s) h = step-without-c s h
   step-without-c (past-block s) h = (h .0, step-without-c s (h .1))
-  step-without-c (within s) h = (step-without-c s (h .0), h .1)
+  step-without-c (in-block s) h = (step-without-c s (h .0), h .1)
 
   -- Only c makes a plan larger, and no other rule leaves its size as it was.
   pub step-smaller : {p q : Plan L} → p ⟶ q → WithoutC p → cells q < cells p
@@ -162,7 +162,7 @@ module _ {L : Type 0} where
   step-smaller (past-operator s) h = omega (arith, step-smaller s (h .1))
   step-smaller (past-token s) h = omega (arith, step-smaller s h)
   step-smaller (past-block s) h = omega (arith, step-smaller s (h .1))
-  step-smaller (within s) h = omega (arith, step-smaller s (h .0))
+  step-smaller (in-block s) h = omega (arith, step-smaller s (h .0))
 
 -- No rule and no choice looks at a label or at a token's text.
 module _ {L M : Type 0} (f : L → M) (g : List ℕ → List ℕ) where
@@ -193,13 +193,13 @@ module _ {L M : Type 0} (f : L → M) (g : List ℕ → List ℕ) where
       (x : Option (Plan L)) {y : Option (Plan M)} → y ≡ under (changed f g) x → under d y ≡ under (changed f g) (under c x)
   under-changed c d same x h = rw h (under-square (changed f g) d c (changed f g) same x)
 
-  pub outer-changed : (p : Plan L) → outer (changed f g p) ≡ under (changed f g) (outer p)
-  unfolding outer changed under
-  outer-changed end = refl
-  outer-changed (operator l o p) = under-changed (operator l o) _ (λ q. refl) (outer p) (outer-changed p)
-  outer-changed (token l t p) = under-changed (token l t) _ (λ q. refl) (outer p) (outer-changed p)
-  outer-changed (block l A p) =
-      let after = under-changed (block l A) (block (f l) (changed f g A)) (λ q. refl) (outer p) (outer-changed p) in
+  pub leftmost-changed : (p : Plan L) → leftmost (changed f g p) ≡ under (changed f g) (leftmost p)
+  unfolding leftmost changed under
+  leftmost-changed end = refl
+  leftmost-changed (operator l o p) = under-changed (operator l o) _ (λ q. refl) (leftmost p) (leftmost-changed p)
+  leftmost-changed (token l t p) = under-changed (token l t) _ (λ q. refl) (leftmost p) (leftmost-changed p)
+  leftmost-changed (block l A p) =
+      let after = under-changed (block l A) (block (f l) (changed f g A)) (λ q. refl) (leftmost p) (leftmost-changed p) in
       under-else (changed f g) (first-block l A p) _ (first-block-changed l A p) after
 
   pub inner-changed : (p : Plan L) → inner (changed f g p) ≡ under (changed f g) (inner p)
@@ -208,15 +208,15 @@ module _ {L M : Type 0} (f : L → M) (g : List ℕ → List ℕ) where
   inner-changed (operator l o p) = under-changed (operator l o) _ (λ q. refl) (inner p) (inner-changed p)
   inner-changed (token l t p) = under-changed (token l t) _ (λ q. refl) (inner p) (inner-changed p)
   inner-changed (block l A p) =
-      let inside = under-else (changed f g) (outer A) (inner A) (outer-changed A) (inner-changed A) in
-      let found = outer A else inner A in
+      let inside = under-else (changed f g) (leftmost A) (inner A) (leftmost-changed A) (inner-changed A) in
+      let found = leftmost A else inner A in
       let around = under-changed (λ B. block l B p) (λ B. block (f l) B (changed f g p)) (λ q. refl) found inside in
       let after = under-changed (block l A) (block (f l) (changed f g A)) (λ q. refl) (inner p) (inner-changed p) in
       under-else (changed f g) (under (λ B. block l B p) found) _ around after
 
   pub next-changed : (p : Plan L) → next (changed f g p) ≡ under (changed f g) (next p)
   unfolding next
-  next-changed p = under-else (changed f g) (outer p) (inner p) (outer-changed p) (inner-changed p)
+  next-changed p = under-else (changed f g) (leftmost p) (inner p) (leftmost-changed p) (inner-changed p)
 
   pub step-changed : {p q : Plan L} → p ⟶ q → changed f g p ⟶ changed f g q
   unfolding changed
@@ -227,7 +227,7 @@ module _ {L M : Type 0} (f : L → M) (g : List ℕ → List ℕ) where
   step-changed (past-operator s) = past-operator (step-changed s)
   step-changed (past-token s) = past-token (step-changed s)
   step-changed (past-block s) = past-block (step-changed s)
-  step-changed (within s) = within (step-changed s)
+  step-changed (in-block s) = in-block (step-changed s)
 
 pub next-relabel : {L M : Type 0} (f : L → M) (p : Plan L) → next (relabel f p) ≡ under (relabel f) (next p)
 next-relabel f p =
@@ -237,7 +237,7 @@ pub finished-relabel : {L M : Type 0} (f : L → M) (p : Plan L) → finished (r
 unfolding finished
 finished-relabel f p = ap is-none (next-relabel f p) ∙ under-none (relabel f) (next p)
 
--- Every token is inert: whatever its text, the same operator is rewritten, and to the same but for the text.
+-- Every token is inert: whatever its text, the same operator is rewritten, and to the same plan except for the text.
 module _ {L : Type 0} (g : List ℕ → List ℕ) where
   pub next-renamed : (p : Plan L) → next (renamed g p) ≡ under (renamed g) (next p)
   next-renamed = next-changed (λ l. l) g
@@ -248,9 +248,9 @@ module _ {L : Type 0} (g : List ℕ → List ℕ) where
 -- The order. A sequence's front part that has a ready operator decides which one is rewritten, whatever comes behind it:
 -- so it is the leftmost; and if none of the sequence itself is ready, a front part that has one inside a block decides.
 module _ {L : Type 0} (y : Plan L) where
-  after-two-front : (l : L) (B : Plan L) (m : L) (A x : Plan L) → IsSome (after-two l B m A x) ⊎ IsSome (outer (block m A x))
+  after-two-front : (l : L) (B : Plan L) (m : L) (A x : Plan L) → IsSome (after-two l B m A x) ⊎ IsSome (leftmost (block m A x))
       → after-two l B m A (x then y) ≡ under (_then y) (after-two l B m A x)
-  unfolding after-two outer first-block _else_ under _then_
+  unfolding after-two leftmost first-block _else_ under _then_
   after-two-front l B m A end s = ⊎-elim absurd absurd s
   after-two-front l B m A (operator n op-a p) s = ap some (sym (then-assoc A (block l B p) y))
   after-two-front l B m A (operator n op-b p) s = refl
@@ -259,9 +259,9 @@ module _ {L : Type 0} (y : Plan L) where
   after-two-front l B m A (token n t p) s = refl
   after-two-front l B m A (block n C p) s = refl
 
-  first-block-front : (l : L) (A x : Plan L) → IsSome (first-block l A x) ⊎ IsSome (outer x)
+  first-block-front : (l : L) (A x : Plan L) → IsSome (first-block l A x) ⊎ IsSome (leftmost x)
       → first-block l A (x then y) ≡ under (_then y) (first-block l A x)
-  unfolding first-block outer under _then_
+  unfolding first-block leftmost under _then_
   first-block-front l A end s = ⊎-elim absurd absurd s
   first-block-front l A (operator n op-a p) s = refl
   first-block-front l A (operator n op-b p) s = refl
@@ -275,15 +275,15 @@ module _ {L : Type 0} (y : Plan L) where
       → v ≡ under (_then y) x → under f v ≡ under (_then y) (under f x)
   behind f same x h = ap (under f) h ∙ under-square (_then y) f f (_then y) (λ q. sym (same q)) x
 
-  pub outer-leftmost : (x : Plan L) → IsSome (outer x) → outer (x then y) ≡ under (_then y) (outer x)
-  unfolding outer _then_
-  outer-leftmost end s = absurd s
-  outer-leftmost (operator l o p) s = behind (operator l o) (λ q. refl) (outer p) (outer-leftmost p (some-under _ (outer p) s))
-  outer-leftmost (token l t p) s = behind (token l t) (λ q. refl) (outer p) (outer-leftmost p (some-under _ (outer p) s))
-  outer-leftmost (block l A p) s =
-      else-front (_then y) (first-block l A p) (under (block l A) (outer p)) s (λ f. first-block-front l A p (inl f))
-      (λ u. let o = some-under (block l A) (outer p) u in
-      (first-block-front l A p (inr o), behind (block l A) (λ q. refl) (outer p) (outer-leftmost p o)))
+  pub leftmost-in-front : (x : Plan L) → IsSome (leftmost x) → leftmost (x then y) ≡ under (_then y) (leftmost x)
+  unfolding leftmost _then_
+  leftmost-in-front end s = absurd s
+  leftmost-in-front (operator l o p) s = behind (operator l o) (λ q. refl) (leftmost p) (leftmost-in-front p (some-under _ (leftmost p) s))
+  leftmost-in-front (token l t p) s = behind (token l t) (λ q. refl) (leftmost p) (leftmost-in-front p (some-under _ (leftmost p) s))
+  leftmost-in-front (block l A p) s =
+      else-front (_then y) (first-block l A p) (under (block l A) (leftmost p)) s (λ f. first-block-front l A p (inl f))
+      (λ u. let o = some-under (block l A) (leftmost p) u in
+      (first-block-front l A p (inr o), behind (block l A) (λ q. refl) (leftmost p) (leftmost-in-front p o)))
 
   pub inner-leftmost : (x : Plan L) → IsSome (inner x) → inner (x then y) ≡ under (_then y) (inner x)
   unfolding inner _then_
@@ -291,7 +291,7 @@ module _ {L : Type 0} (y : Plan L) where
   inner-leftmost (operator l o p) s = behind (operator l o) (λ q. refl) (inner p) (inner-leftmost p (some-under _ (inner p) s))
   inner-leftmost (token l t p) s = behind (token l t) (λ q. refl) (inner p) (inner-leftmost p (some-under _ (inner p) s))
   inner-leftmost (block l A p) s =
-      let within-front = sym (under-under (λ B. block l B p) (_then y) (outer A else inner A)) in
-      else-front (_then y) (under (λ B. block l B p) (outer A else inner A)) (under (block l A) (inner p)) s (λ f. within-front)
+      let within-front = sym (under-under (λ B. block l B p) (_then y) (leftmost A else inner A)) in
+      else-front (_then y) (under (λ B. block l B p) (leftmost A else inner A)) (under (block l A) (inner p)) s (λ f. within-front)
       (λ u. let o = some-under (block l A) (inner p) u in
       (within-front, behind (block l A) (λ q. refl) (inner p) (inner-leftmost p o)))

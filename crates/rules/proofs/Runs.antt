@@ -15,15 +15,15 @@ use Rattle.plan.specs.Plan.{Plan, cells, relabel, renamed, WithoutC}
 use Rattle.plan.specs.Token.{Allowed}
 use Rattle.plan.specs.Options.{under}
 use Rattle.rules.specs.Rewriting.{_⟶_, next}
-use Rattle.rules.specs.Running.{Asked, STOP, GO, ask, Ran, RAN, turn, one-more, run-plan, Leads}
+use Rattle.rules.specs.Running.{Asked, ENDS, GOES-ON, ask, Ran, RAN, turn, one-step-more, run-plan, Leads}
 use Rattle.plan.proofs.Plans.{cells-relabel, cells-changed}
 use Rattle.kinds.proofs.Tests.{never}
 use Rattle.rules.proofs.Rewrites.{next-step, next-relabel, next-renamed, step-allowed, step-without-c, step-smaller}
 
 -- the ending of a run that makes no more steps, by what its last turn answered
 unfoldable pub ending : {L : Type 0} → Asked L → Ending
-ending (STOP e) = e
-ending (GO q) = Quota
+ending (ENDS e) = e
+ending (GOES-ON q) = Quota
 
 -- when a run that leads to q has that ending
 abbrev pub Stops : {L : Type 0} → (n : ℕ) → Ending → Plan L → Type 0
@@ -33,9 +33,9 @@ Stops {L} n Full q = (r : Plan L) × (next q ≡ some r) × (n < cells r)
 
 -- a run, turn by turn
 pub data Run {L : Type 0} (n : ℕ) : (quota : ℕ) → Plan L → Ending → (steps : ℕ) → Plan L → Type 0 where
-  stop : {quota : ℕ} {p : Plan L} {e : Ending} → ask n (next p) ≡ STOP e → Run n quota p e 0 p
-  spent : {p r : Plan L} → ask n (next p) ≡ GO r → Run n 0 p Quota 0 p
-  go : {quota : ℕ} {p r q : Plan L} {e : Ending} {steps : ℕ} → ask n (next p) ≡ GO r → Run n quota r e steps q →
+  stop : {quota : ℕ} {p : Plan L} {e : Ending} → ask n (next p) ≡ ENDS e → Run n quota p e 0 p
+  spent : {p r : Plan L} → ask n (next p) ≡ GOES-ON r → Run n 0 p Quota 0 p
+  go : {quota : ℕ} {p r q : Plan L} {e : Ending} {steps : ℕ} → ask n (next p) ≡ GOES-ON r → Run n quota r e steps q →
       Run n (suc quota) p e (suc steps) q
 
 -- what holds of a run's three parts
@@ -44,16 +44,16 @@ Of P (RAN e steps q) = P e steps q
 
 -- what a turn's answer tells of the plan that was asked about
 module _ {L : Type 0} (n : ℕ) where
-  pub ask-go : (x : Option (Plan L)) (r : Plan L) → (ask n x ≡ GO r) ↔ ((x ≡ some r) × (cells r ≤ n))
+  pub ask-go : (x : Option (Plan L)) (r : Plan L) → (ask n x ≡ GOES-ON r) ↔ ((x ≡ some r) × (cells r ≤ n))
   unfolding ask
   ask-go x r = (by-next x, λ h. rw (h .0, le-leb (cells r) n (h .1)))
     where
-      by-test : (q : Plan L) (b : Bool) → leb (cells q) n ≡ b → cond b (GO q) (STOP Full) ≡ GO r →
+      by-test : (q : Plan L) (b : Bool) → leb (cells q) n ≡ b → cond b (GOES-ON q) (ENDS Full) ≡ GOES-ON r →
           (some q ≡ some r) × (cells r ≤ n)
       by-test q true t h = let same : q ≡ r = cc in (ap some same, rw same at (leb-true (cells q) n t))
       by-test q false t h = never cc
 
-      by-next : (y : Option (Plan L)) → ask n y ≡ GO r → (y ≡ some r) × (cells r ≤ n)
+      by-next : (y : Option (Plan L)) → ask n y ≡ GOES-ON r → (y ≡ some r) × (cells r ≤ n)
       by-next none h = never cc
       by-next (some q) h = by-test q (leb (cells q) n) refl h
 
@@ -62,7 +62,7 @@ module _ {L : Type 0} (n : ℕ) where
   asked q = by-next (next q) refl
     where
       by-test : (r : Plan L) → next q ≡ some r → (b : Bool) → leb (cells r) n ≡ b →
-          Stops n (ending (cond b (GO r) (STOP Full))) q
+          Stops n (ending (cond b (GOES-ON r) (ENDS Full))) q
       by-test r h true t = (r, h, leb-true (cells r) n t)
       by-test r h false t = (r, h, leb-false (cells r) n t)
 
@@ -81,7 +81,7 @@ module _ {L : Type 0} (n : ℕ) where
   stops-ending q Full h = rw (h .1, lt-leb (cells (h .0)) n (h .2))
 
   -- a turn that goes on is not one that stops the run
-  stop-not-quota : (p : Plan L) → ask n (next p) ≡ STOP Quota → ⊥
+  stop-not-quota : (p : Plan L) → ask n (next p) ≡ ENDS Quota → ⊥
   unfolding ending
   stop-not-quota p h =
       let more = ending-stops p Quota (ap ending h) in
@@ -90,37 +90,37 @@ module _ {L : Type 0} (n : ℕ) where
 
 -- the clauses of `run-plan`, by turns
 module _ {L : Type 0} (n : ℕ) where
-  pub run-stop : (quota : ℕ) (p : Plan L) {e : Ending} → ask n (next p) ≡ STOP e → run-plan n quota p ≡ RAN e 0 p
+  pub run-stop : (quota : ℕ) (p : Plan L) {e : Ending} → ask n (next p) ≡ ENDS e → run-plan n quota p ≡ RAN e 0 p
   unfolding run-plan turn
   run-stop zero p h = rw h
   run-stop (suc quota) p h = rw h
 
-  pub run-spent : (p : Plan L) {r : Plan L} → ask n (next p) ≡ GO r → run-plan n 0 p ≡ RAN Quota 0 p
+  pub run-spent : (p : Plan L) {r : Plan L} → ask n (next p) ≡ GOES-ON r → run-plan n 0 p ≡ RAN Quota 0 p
   unfolding run-plan turn
   run-spent p h = rw h
 
-  pub run-go : (quota : ℕ) (p : Plan L) {r : Plan L} → ask n (next p) ≡ GO r →
-      run-plan n (suc quota) p ≡ one-more (run-plan n quota r)
+  pub run-go : (quota : ℕ) (p : Plan L) {r : Plan L} → ask n (next p) ≡ GOES-ON r →
+      run-plan n (suc quota) p ≡ one-step-more (run-plan n quota r)
   unfolding run-plan turn
   run-go quota p h = rw h
 
   runs : (quota : ℕ) (p : Plan L) → Of (Run n quota p) (run-plan n quota p)
-  unfolding run-plan turn one-more
+  unfolding run-plan turn one-step-more
   runs zero p = by-turn (ask n (next p)) refl
     where
       by-turn : (t : Asked L) → ask n (next p) ≡ t → Of (Run n 0 p) (turn t p (λ q. RAN Quota 0 p))
-      by-turn (STOP e) h = stop h
-      by-turn (GO r) h = spent h
+      by-turn (ENDS e) h = stop h
+      by-turn (GOES-ON r) h = spent h
   runs (suc quota) p = by-turn (runs quota) (ask n (next p)) refl
     where
-      longer : {r : Plan L} → ask n (next p) ≡ GO r → (x : Ran L) → Of (Run n quota r) x →
-          Of (Run n (suc quota) p) (one-more x)
+      longer : {r : Plan L} → ask n (next p) ≡ GOES-ON r → (x : Ran L) → Of (Run n quota r) x →
+          Of (Run n (suc quota) p) (one-step-more x)
       longer h (RAN e steps q) ran = go h ran
 
       by-turn : ((r : Plan L) → Of (Run n quota r) (run-plan n quota r)) → (t : Asked L) → ask n (next p) ≡ t →
-          Of (Run n (suc quota) p) (turn t p (λ r. one-more (run-plan n quota r)))
-      by-turn after (STOP e) h = stop h
-      by-turn after (GO r) h = longer h (run-plan n quota r) (after r)
+          Of (Run n (suc quota) p) (turn t p (λ r. one-step-more (run-plan n quota r)))
+      by-turn after (ENDS e) h = stop h
+      by-turn after (GOES-ON r) h = longer h (run-plan n quota r) (after r)
 
   -- `run-plan` says what a run is: so a law of every run goes by the run's turns.
   pub ran-run : (quota : ℕ) (p : Plan L) {e : Ending} {steps : ℕ} {q : Plan L} → run-plan n quota p ≡ RAN e steps q →
@@ -129,10 +129,10 @@ module _ {L : Type 0} (n : ℕ) where
 
   pub run-ran : {quota steps : ℕ} {p q : Plan L} {e : Ending} → Run n quota p e steps q →
       run-plan n quota p ≡ RAN e steps q
-  unfolding one-more
+  unfolding one-step-more
   run-ran (stop {quota} {p} h) = run-stop quota p h
   run-ran (spent {p} h) = run-spent p h
-  run-ran (go {quota} {p} h ran) = run-go quota p h ∙ ap one-more (run-ran ran)
+  run-ran (go {quota} {p} h ran) = run-go quota p h ∙ ap one-step-more (run-ran ran)
 
 -- what so many rewrites keep, and what they make smaller
 module _ {L : Type 0} where
@@ -181,7 +181,7 @@ module _ {L : Type 0} {n : ℕ} where
   unfolding ask ending
   larger m more (stop {p} h) done room time =
       let none-ready = ending-stops n p Done (ap ending h ∙ done) in
-      stop (ap (ask m) none-ready ∙ ap STOP (sym done))
+      stop (ap (ask m) none-ready ∙ ap ENDS (sym done))
   larger m more (spent h) done room time = never cc
   larger m zero (go h ran) done room time = absurd (omega arith)
   larger m (suc more) (go {p} {r} h ran) done room time =
@@ -190,7 +190,7 @@ module _ {L : Type 0} {n : ℕ} where
 
   joins : {j steps steps′ : ℕ} {p q q′ : Plan L} {e e′ : Ending} (k : ℕ) → Run n j p e steps q →
       run-plan n k q ≡ RAN e′ steps′ q′ → run-plan n (j + k) p ≡ RAN e′ (steps + steps′) q′
-  unfolding one-more
+  unfolding one-step-more
   joins k (stop {quota = j} {p} h) after = rw (zero-add, run-stop n (j + k) p h, ← run-stop n k p h) after
   joins k (spent h) after = simp zero-add after
   joins k (go {quota = j} {p} h ran) after = rw (suc-add j k, run-go n (j + k) p h, joins k ran after) (rw suc-add)
@@ -260,8 +260,8 @@ module _ {L : Type 0} where
 
 -- A run goes the same way under a change of plans that keeps the cells and goes along with the next rewrite.
 unfoldable pub retell : {L M : Type 0} → (Plan L → Plan M) → Asked L → Asked M
-retell change (STOP e) = STOP e
-retell change (GO q) = GO (change q)
+retell change (ENDS e) = ENDS e
+retell change (GOES-ON q) = GOES-ON (change q)
 
 module _ {L M : Type 0} (change : Plan L → Plan M) (as-large : (p : Plan L) → cells (change p) ≡ cells p)
     (along : (p : Plan L) → next (change p) ≡ under change (next p)) where
@@ -270,7 +270,7 @@ module _ {L M : Type 0} (change : Plan L → Plan M) (as-large : (p : Plan L) �
   ask-under n none = refl
   ask-under n (some q) = rw (as-large q) (by-test (leb (cells q) n))
     where
-      by-test : (b : Bool) → cond b (GO (change q)) (STOP Full) ≡ retell change (cond b (GO q) (STOP Full))
+      by-test : (b : Bool) → cond b (GOES-ON (change q)) (ENDS Full) ≡ retell change (cond b (GOES-ON q) (ENDS Full))
       by-test true = refl
       by-test false = refl
 

@@ -1,7 +1,7 @@
--- Where a sequence stands in a plan, and what document 01's order finds there and behind it. The order looks into the sequences
--- as their `[` come, so what is behind a sequence is inside the blocks that follow it, first in its own surroundings. Then the
--- rule of an operator as it stands in a sequence, and a sequence as the choice of a ready operator sees it: without what its
--- blocks hold.
+-- Where a sequence stands in a plan, and what document 01's order finds there and behind it. The order looks into the sequences as their
+-- `[` come. So what it finds behind a sequence is inside the blocks that follow the sequence's own block, or else behind the sequence
+-- around that block. Then comes the rule of an operator, as it stands in a sequence. Last comes a sequence without what its blocks hold.
+-- The choice of a ready operator sees no more of it.
 use mathlib.Core.Path.{_≡_}
 use mathlib.Core.Option.{Option, none}
 use Rattle.plan.specs.Options.{_else_, under}
@@ -10,8 +10,8 @@ use Rattle.plan.specs.declared.Operator.the-variants.{A as op-a, B as op-b, C a
 use Rattle.plan.specs.Plan.{Plan, end, operator, token, block, _then_}
 use Rattle.rules.specs.Rewriting.{inner, next}
 
--- What stands around a sequence: nothing; or it is the inside of a block, with items before that block and behind it, and
--- something stands around those.
+-- What stands around a sequence: nothing; or the block whose inside it is, the items before that block and
+-- behind it, and what stands around those.
 pub data Frame (L : Type 0) : Type 0 where
   top : Frame L
   within : (before : Plan L) → L → Frame L → (after : Plan L) → Frame L
@@ -32,31 +32,31 @@ pub record Ahead {L : Type 0} (t : Plan L) (f : Frame L) (q : Plan L) : Type 0 w
   pub there : t ≡ plug f q
   pub first : next t ≡ under (plug f) (next q) else beyond f q
 
--- .. and of the sequence none of its own and none inside the items d: the next rewrite is inside the items z, or behind them
+-- .. and no operator of the sequence's own is ready, and none inside the items d: the next rewrite is inside the items z, or behind them
 pub record Inside {L : Type 0} (t : Plan L) (f : Frame L) (d z : Plan L) : Type 0 where
   pub there : t ≡ plug f (d then z)
   pub first : next t ≡ under (λ v. plug f (d then v)) (inner z) else beyond f (d then z)
 
--- The four rules as they stand in a sequence, by the operator: which block it takes beside the one right before it, and what it
--- makes of the contents B and A of its blocks, with p behind them. The operators c and d take no block [B].
+-- The four rules as they stand in a sequence, by the operator. `lead` is the block that it takes beside the one right before it. `made` is
+-- what it makes of the contents B and A of its blocks, with p behind them. The operators c and d take no block [B].
 abbrev pub lead : {L : Type 0} → Operator → (l : L) → (B : Plan L) → Plan L
 lead op-a l B = block l B end
 lead op-b l B = block l B end
 lead op-c l B = end
 lead op-d l B = end
 
-abbrev pub made : {L : Type 0} → Operator → (l : L) → (B : Plan L) → (m : L) → (A p : Plan L) → Plan L
-made op-a l B m A p = A then block l B p
-made op-b l B m A p = block m (block l B A) p
-made op-c l B m A p = block m A (block m A p)
-made op-d l B m A p = p
+abbrev pub rule-makes : {L : Type 0} → Operator → (l : L) → (B : Plan L) → (m : L) → (A p : Plan L) → Plan L
+rule-makes op-a l B m A p = A then block l B p
+rule-makes op-b l B m A p = block m (block l B A) p
+rule-makes op-c l B m A p = block m A (block m A p)
+rule-makes op-d l B m A p = p
 
 -- in the sequence q the operator o comes behind its blocks, with X before them and p behind it, and its rule makes q′ of q
 pub record Rule {L : Type 0} (o : Operator) (l m n : L) (X p q q′ : Plan L) : Type 0 where
   pub older : Plan L
   pub newer : Plan L
   pub is : q ≡ X then (lead o l older then block m newer (operator n o p))
-  pub gives : q′ ≡ X then made o l older m newer p
+  pub gives : q′ ≡ X then rule-makes o l older m newer p
 
 -- the sequence with the contents of its own blocks taken out
 unfoldable pub hollow : {L : Type 0} → Plan L → Plan L

@@ -1,6 +1,6 @@
--- Which operators of a sequence are ready, by their number in it: document 01, "An operator is ready when ..". Items are counted
--- from 0. The order's `outer` finds one by its blocks; here each operator is asked for the items just before it, so that
--- "the leftmost of those" can be said in the document's own words.
+-- Which operators of a sequence are ready, by their number in it: document 01, "An operator is ready when ..". Items are counted from 0.
+-- The order's `outer` finds a ready operator by its blocks. Here the items just before each operator tell whether it is ready. So "the
+-- leftmost of those" can be said in the document's own words.
 use Prim.Native.Nat.{ℕ, zero, suc, _+_, _<_, _≤_}
 use mathlib.Core.Path.{_≡_}
 use Rattle.rules.specs.Frames.{Rule}

@@ -19,7 +19,7 @@ pub data _⟶_ {L : Type 0} : Plan L → Plan L → Type 0 where
   past-operator : {l : L} {o : Operator} {p q : Plan L} → p ⟶ q → operator l o p ⟶ operator l o q
   past-token : {l : L} {t : List ℕ} {p q : Plan L} → p ⟶ q → token l t p ⟶ token l t q
   past-block : {l : L} {A p q : Plan L} → p ⟶ q → block l A p ⟶ block l A q
-  within : {l : L} {A B p : Plan L} → A ⟶ B → block l A p ⟶ block l B p
+  in-block : {l : L} {A B p : Plan L} → A ⟶ B → block l A p ⟶ block l B p
 
 -- the rewrite of the operator that comes right after the blocks [B] and [A]
 unfoldable pub after-two : {L : Type 0} → L → Plan L → L → Plan L → Plan L → Option (Plan L)
@@ -43,22 +43,22 @@ first-block l A (block m B p) = after-two l A m B p
 
 -- The leftmost ready operator of the sequence itself, rewritten. One whose first block is the first item stands left of
 -- every other that is ready.
-unfoldable pub outer : {L : Type 0} → Plan L → Option (Plan L)
-outer end = none
-outer (operator l o p) = under (operator l o) (outer p)
-outer (token l t p) = under (token l t) (outer p)
-outer (block l A p) = first-block l A p else under (block l A) (outer p)
+unfoldable pub leftmost : {L : Type 0} → Plan L → Option (Plan L)
+leftmost end = none
+leftmost (operator l o p) = under (operator l o) (leftmost p)
+leftmost (token l t p) = under (token l t) (leftmost p)
+leftmost (block l A p) = first-block l A p else under (block l A) (leftmost p)
 
 -- the same rule used inside the first block that has a ready operator at any depth
 unfoldable pub inner : {L : Type 0} → Plan L → Option (Plan L)
 inner end = none
 inner (operator l o p) = under (operator l o) (inner p)
 inner (token l t p) = under (token l t) (inner p)
-inner (block l A p) = under (λ B. block l B p) (outer A else inner A) else under (block l A) (inner p)
+inner (block l A p) = under (λ B. block l B p) (leftmost A else inner A) else under (block l A) (inner p)
 
 -- the next rewrite
 unfoldable pub next : {L : Type 0} → Plan L → Option (Plan L)
-next p = outer p else inner p
+next p = leftmost p else inner p
 
 -- "A plan with no ready operator at any depth is finished."
 unfoldable pub finished : {L : Type 0} → Plan L → Bool

@@ -9,30 +9,30 @@ use Rattle.rules.specs.declared.Ending.the-variants.{Done, Quota, Full}
 use Rattle.plan.specs.Plan.{Plan, cells}
 use Rattle.rules.specs.Rewriting.{next}
 
--- what is asked before a step, but for the quota: the run ends, or goes on with the next plan
+-- what is asked before a step, except for the quota: the run ends, or goes on with the next plan
 pub data Asked (L : Type 0) : Type 0 where
-  STOP : Ending → Asked L
-  GO : Plan L → Asked L
+  ENDS : Ending → Asked L
+  GOES-ON : Plan L → Asked L
 
 unfoldable pub ask : {L : Type 0} → (n : ℕ) → Option (Plan L) → Asked L
-ask n none = STOP Done
-ask n (some q) = cond (leb (cells q) n) (GO q) (STOP Full)
+ask n none = ENDS Done
+ask n (some q) = cond (leb (cells q) n) (GOES-ON q) (ENDS Full)
 
 -- how a run ended, the rewrites it made and the plan they led to
 pub data Ran (L : Type 0) : Type 0 where
   RAN : Ending → (steps : ℕ) → Plan L → Ran L
 
 unfoldable pub turn : {L : Type 0} → Asked L → Plan L → (Plan L → Ran L) → Ran L
-turn (STOP e) p after = RAN e 0 p
-turn (GO q) p after = after q
+turn (ENDS e) p after = RAN e 0 p
+turn (GOES-ON q) p after = after q
 
-unfoldable pub one-more : {L : Type 0} → Ran L → Ran L
-one-more (RAN e steps p) = RAN e (suc steps) p
+unfoldable pub one-step-more : {L : Type 0} → Ran L → Ran L
+one-step-more (RAN e steps p) = RAN e (suc steps) p
 
 -- Before each step: no ready operator, Done; the next result has more than n cells, Full; the quota is used up, Quota.
 unfoldable pub run-plan : {L : Type 0} → (n quota : ℕ) → Plan L → Ran L
 run-plan n zero p = turn (ask n (next p)) p (λ q. RAN Quota 0 p)
-run-plan n (suc quota) p = turn (ask n (next p)) p (λ q. one-more (run-plan n quota q))
+run-plan n (suc quota) p = turn (ask n (next p)) p (λ q. one-step-more (run-plan n quota q))
 
 -- q is what so many rewrites in the fixed order make of p
 abbrev pub Leads : {L : Type 0} → (steps : ℕ) → Plan L → Plan L → Type 0

@@ -1,5 +1,5 @@
-// How a run ends, and how many blocks an operator takes. The definitions in specs/ say what rewriting is: the four rules, their order,
-// runs.
+// What rewriting is: the four rewrites, their order, runs, and the laws of these. specs/ has the definitions. The code says how a run ends,
+// and how many blocks an operator takes.
 ghost use mathlib.Core.Path.{_≡_};
 ghost use Rattle.rules.specs.Leftmost.{takes};
 use plan::Operator;

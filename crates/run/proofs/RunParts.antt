@@ -1,5 +1,5 @@
--- RUN, part by part: what the run in the memory ended with is what the definition's run of the accepted plan gives, since no run
--- looks at a label; it is never too long to be printed; and what is printed is what the definition writes.
+-- RUN, part by part. What the run in the memory ended with is what the definition's run of the accepted plan gives, since no run looks at a
+-- label. That plan is never too long to be printed. What is printed is what the definition writes.
 use Prim.Native.Nat.{ℕ, _≤_, _<_}
 use mathlib.Core.Path.{_≡_, refl, ap, ap₂, sym, _∙_, subst}
 use mathlib.Core.List.{List}
@@ -12,7 +12,7 @@ use Rattle.plan.specs.Plan.{Plan, bare, cells, print}
 use Rattle.plan.specs.Reading.{ACCEPTED, accept, read}
 use Rattle.rules.specs.Running.{Ran as Run, RAN, run-plan}
 use Rattle.plan.specs.Outcomes.{GIVES, Wrote, cleared}
-use Rattle.answers.specs.Run.{as-run, bad-arena, quarter, run-family, run-read, runs, too-long}
+use Rattle.answers.specs.Run.{as-run, bad-arena, quarter, run-family, run-read, run-outcome, text-too-long}
 use Rattle.plan.specs.declared.TextFault.the-variants.{TooLong}
 use Rattle.plan.specs.declared.Unread.{Unread}
 use Rattle.plan.specs.declared.Unread.the-variants.{Text}
@@ -25,9 +25,9 @@ use Rattle.plan.proofs.ReadBack.{print-bound, read-accepted}
 use Rattle.rules.proofs.Runs.{run-allowed, run-cells, run-relabel}
 use Rattle.plan.proofs.Accepting.{accept-short, accepted-text}
 use Rattle.answers.proofs.Runs.{refuses-refused, runs-short}
-use Rattle.read.specs.Accepted.{accepted-as}
-use Rattle.read.specs.declared.Acceptance.{Acceptance as Told}
-use Rattle.read.specs.declared.Acceptance.the-variants.{Accepted, NotRead as NotAccepted}
+use Rattle.read.specs.Accepted.{acceptance-told}
+use Rattle.read.specs.declared.ToldAcceptance.{ToldAcceptance}
+use Rattle.read.specs.declared.ToldAcceptance.the-variants.{Accepted, NotRead as NotAccepted}
 use Rattle.read.proofs.Accepting.{told-plan, told-unread}
 use Rattle.kinds.specs.Written.{put-at}
 use Rattle.kinds.proofs.Putting.{put-front}
@@ -153,15 +153,15 @@ module _ {text m : List ℕ} (outer : Cell) {size : ℕ} (k : TextAccepted text 
 
 -- RUN's refusals, where n cells are lent
 module _ (text : List ℕ) (n quota : ℕ) (out : List ℕ) where
-  pub refused-too-long : textLimit < length text → Wrote run-family (runs standard n quota text) out (Refused (NotRead (Text TooLong))) out
-  refused-too-long h = wrote-refused run-family out (refuses-refused standard n quota text (too-long h))
+  pub refused-too-long : textLimit < length text → Wrote run-family (run-outcome standard n quota text) out (Refused (NotRead (Text TooLong))) out
+  refused-too-long h = wrote-refused run-family out (refuses-refused standard n quota text (text-too-long h))
 
-  pub refused-arena : length text ≤ textLimit → cellLimit < n → Wrote run-family (runs standard n quota text) out (Refused BadArena) out
+  pub refused-arena : length text ≤ textLimit → cellLimit < n → Wrote run-family (run-outcome standard n quota text) out (Refused BadArena) out
   refused-arena h g = wrote-refused run-family out (refuses-refused standard n quota text (bad-arena h g))
 
   -- a text that was accepted, or not read
-  module _ (short : length text ≤ textLimit) (few : n ≤ cellLimit) {a : Told} (told : a ≡ accepted-as (accept standard n text)) where
-    pub refused-text : {u : Unread} → a ≡ NotAccepted u → Wrote run-family (runs standard n quota text) out (Refused (NotRead u)) out
+  module _ (short : length text ≤ textLimit) (few : n ≤ cellLimit) {a : ToldAcceptance} (told : a ≡ acceptance-told (accept standard n text)) where
+    pub refused-text : {u : Unread} → a ≡ NotAccepted u → Wrote run-family (run-outcome standard n quota text) out (Refused (NotRead u)) out
     unfolding run-read
     refused-text e =
         wrote-refused run-family out
@@ -170,13 +170,13 @@ module _ (text : List ℕ) (n quota : ℕ) (out : List ℕ) where
 
     -- the cells as `Cell::new` makes them
     pub wrote-run : {outer : Cell} {out′ : List ℕ} {r : RunAnswer} → outer .0 ≡ n
-        → Wrote run-family (run-read (outer .0) quota (read tokenLimit (outer .0) text)) out r out′ → Wrote run-family (runs standard n quota text) out r out′
+        → Wrote run-family (run-read (outer .0) quota (read tokenLimit (outer .0) text)) out r out′ → Wrote run-family (run-outcome standard n quota text) out r out′
     wrote-run {out′ = out′} {r} is w =
         subst (λ x. Wrote run-family x out r out′) (sym (runs-short standard n quota text short few))
         (subst (λ k. Wrote run-family (run-read k quota (read tokenLimit k text)) out r out′) is w)
 
 -- what a run stands on
-pub accepted-cell : (text : List ℕ) (n : ℕ) → length text ≤ textLimit → n ≤ cellLimit → {a : Told} → a ≡ accepted-as (accept standard n text)
+pub accepted-cell : (text : List ℕ) (n : ℕ) → length text ≤ textLimit → n ≤ cellLimit → {a : ToldAcceptance} → a ≡ acceptance-told (accept standard n text)
     → {outer : Cell} {c l : ℕ} (m : List ℕ) → outer .0 ≡ n → n ≡ quarter (length m) → a ≡ Accepted c l → TextAccepted text m (outer .0) c
 accepted-cell text n short few told m is lent e =
     let found = told-plan n text told e in
@@ -190,7 +190,7 @@ accepted-cell text n short few told m is lent e =
     })
 
 -- the whole service
-pub ran-call : (text : List ℕ) (quota : ℕ) (memory memory₁ memory₂ out out′ : List ℕ) (r : RunAnswer) → Wrote run-family (runs standard (quarter (length memory)) quota text) out r out′
+pub ran-call : (text : List ℕ) (quota : ℕ) (memory memory₁ memory₂ out out′ : List ℕ) (r : RunAnswer) → Wrote run-family (run-outcome standard (quarter (length memory)) quota text) out r out′
     → length memory₁ ≡ length memory → memory₂ ≡ cleared memory₁ → Runs text quota memory out r memory₂ out′
 unfolding cleared
 ran-call text quota memory memory₁ memory₂ out out′ r w long e =

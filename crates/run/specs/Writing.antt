@@ -15,7 +15,7 @@ use Rattle.rules.specs.Running.{RAN}
 use Rattle.answers.specs.declared.RunAnswer.{RunAnswer}
 use Rattle.answers.specs.Run.{as-run, run-family}
 
--- the memory holds the plan that a run ended with, and its printed text is none too long
+-- the memory holds the plan that a run ended with, and its printed text is not too long
 pub record Printable (text m : List ℕ) (e : Ended) : Type 0 where
   pub lent : Lent (e .held .outer .0) m
   pub plan : Plan ℕ
@@ -27,7 +27,7 @@ abbrev pub EndWritten : (text m : List ℕ) → Ended → (out : List ℕ) → R
 EndWritten text m e out r out′ =
     (t : Plan ℕ) → Sized text m (e .held) (e .size) t → Wrote run-family (as-run (RAN (e .ending) (e .steps) t)) out r out′
 
--- the text was accepted, with so many cells lent, as a plan that has so many
+-- where n cells are lent, the text was accepted as a plan of `size` cells
 pub record TextAccepted (text m : List ℕ) (n size : ℕ) : Type 0 where
   pub lent : Lent n m
   pub short : length text ≤ textLimit

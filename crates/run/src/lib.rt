@@ -1,12 +1,12 @@
-// RUN, the service of document 01: public, nothing asked of the caller, and its contract says for every input what the call answers and
-// leaves (specs/Calls.antt). The plan of an accepted text is built in the memory, rewritten there and printed from it. At the end of every
-// call, whatever its answer, all numbers lent are 0.
+// RUN, the service of document 01: it builds the plan of an accepted text in the memory, rewrites it there and prints it from there. It is
+// public and asks nothing of its caller, and its contract says for every input what the call answers and leaves (specs/Calls.antt). At the
+// end of every call, whatever its answer, all numbers lent are 0.
 ghost use mathlib.Core.Path.{_≡_};
 ghost use lib.ListN.{length};
 ghost use Rattle.kinds.specs.Limits.{tokenLimit, standard};
 ghost use Rattle.plan.specs.Outcomes.{Wrote};
 ghost use Rattle.plan.specs.Reading.{read};
-ghost use Rattle.answers.specs.Run.{quarter, run-family, run-read, runs};
+ghost use Rattle.answers.specs.Run.{quarter, run-family, run-read, run-outcome};
 ghost use Rattle.run.specs.Calls.{Runs};
 ghost use Rattle.run.specs.Writing.{EndWritten, Printable, TextAccepted};
 use answers::RunAnswer;
@@ -20,7 +20,7 @@ use memory::print_into;
 use memory::printed_length;
 use plan::TextFault;
 use plan::Unread;
-use read::Acceptance;
+use read::ToldAcceptance;
 use read::accept;
 
 // The answer of a run that ended, and its printed text in the output; or 18, and the output as it was.
@@ -63,7 +63,7 @@ fn run_accepted(
 
 // RUN before the clearing: 11 comes before 12, and 12 before what stands in the text.
 fn run_uncleared(text: &[u8], quota: u32, memory: &mut [u32], output: &mut [u8]) -> RunAnswer
-    ensures written { λ r. ⌜ Wrote run-family (runs standard (quarter (length (now (memory .entry)))) quota (now (text .entry))) (now (output .entry)) r (now (output .exit)) ⌝ }
+    ensures written { λ r. ⌜ Wrote run-family (run-outcome standard (quarter (length (now (memory .entry)))) quota (now (text .entry))) (now (output .entry)) r (now (output .exit)) ⌝ }
     ensures as_long { λ r. ⌜ length (now (memory .exit)) ≡ length (now (memory .entry)) ⌝ }
 {
     let lent = memory.len() / Cell::NUMBERS;
@@ -74,8 +74,8 @@ fn run_uncleared(text: &[u8], quota: u32, memory: &mut [u32], output: &mut [u8])
         return RunAnswer::Refused(RunRefusal::BadArena);
     }
     match accept(text, lent as u32) {
-        Acceptance::NotRead(why) => RunAnswer::Refused(RunRefusal::NotRead(why)),
-        Acceptance::Accepted { cells, length } => {
+        ToldAcceptance::NotRead(why) => RunAnswer::Refused(RunRefusal::NotRead(why)),
+        ToldAcceptance::Accepted { cells, length } => {
             run_accepted(text, quota, memory, output, Cell::new(lent), cells)
         }
     }

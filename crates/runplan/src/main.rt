@@ -1,6 +1,6 @@
-// Runs a plan: reads it from standard input, runs it with a quota of 10,000 and 4,096 cells, and writes what is left of it,
-// then a line with the five numbers of the answer. After a refusal there is no text, and the first line is empty. What cannot be
-// read or written is said on standard error.
+// The program behind `./runplan`: it reads a plan from standard input, runs it, and writes what is left of it and the five numbers of the
+// answer. The quota is 10,000, and there are 4,096 cells. The text comes first, then a line with the numbers. After a refusal there is no
+// text, and the first line is empty. What cannot be read or written is said on standard error.
 use answers::of_run;
 use input::Input;
 use input::read_whole;
@@ -24,7 +24,7 @@ enum Behind {
     Failed,
 }
 
-// Only where the bytes fill the buffer is there something to ask: an input that was shorter has ended.
+// There is something to ask only where the bytes fill the buffer. A shorter input has ended.
 fn look_behind(read: usize) -> Behind {
     if read < TEXT {
         return Behind::Nothing;
@@ -42,7 +42,7 @@ fn look_behind(read: usize) -> Behind {
     }
 }
 
-// Whether all could be written.
+// Runs a text, writes what came of it, and answers whether all could be written.
 fn run_text(text: &[u8], memory: &mut [u32], output: &mut [u8]) -> bool {
     let numbers = of_run(run::run(text, QUOTA, memory, output));
     if !tell_printed(numbers, output) {

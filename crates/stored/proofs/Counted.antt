@@ -1,4 +1,4 @@
--- Laws of numbers and runs at the front of bytes: where they stand, that what was written is read, and what a cut leaves.
+-- Laws of numbers and of counted bytes at the front of bytes: where they stand, that what was written is read, and what a cut leaves.
 use Prim.Native.Nat.{ℕ, suc, _+_, _≤_, _<_}
 use mathlib.Core.Path.{_≡_, refl, ap, _∙_}
 use mathlib.Core.Bool.{Bool, true, false, cond}
@@ -55,16 +55,16 @@ number-front (a ∷ b ∷ []) e = never cc
 number-front (a ∷ b ∷ c ∷ []) e = never cc
 number-front (a ∷ b ∷ c ∷ d ∷ bs) {n} {rest} e = (omega arith, let same : rest ≡ bs = cc in same)
 
--- a run that is there
-pub so-many-parts : (n : ℕ) (bs : List ℕ) {run rest : List ℕ} → so-many n bs ≡ FRONT run rest → (n ≤ length bs) × (run ≡ take n bs) × (rest ≡ drop n bs)
+-- counted bytes that are there
+pub so-many-parts : (n : ℕ) (bs : List ℕ) {given rest : List ℕ} → so-many n bs ≡ FRONT given rest → (n ≤ length bs) × (given ≡ take n bs) × (rest ≡ drop n bs)
 unfolding so-many
-so-many-parts n bs {run} {rest} e = go (leb n (length bs)) refl e
+so-many-parts n bs {given} {rest} e = go (leb n (length bs)) refl e
   where
-    go : (t : Bool) → leb n (length bs) ≡ t → cond t (FRONT (take n bs) (drop n bs)) CUT ≡ FRONT run rest → (n ≤ length bs) × (run ≡ take n bs) × (rest ≡ drop n bs)
-    go true h e = (leb-true n (length bs) h, let same : run ≡ take n bs = cc in same, let same : rest ≡ drop n bs = cc in same)
+    go : (t : Bool) → leb n (length bs) ≡ t → cond t (FRONT (take n bs) (drop n bs)) CUT ≡ FRONT given rest → (n ≤ length bs) × (given ≡ take n bs) × (rest ≡ drop n bs)
+    go true h e = (leb-true n (length bs) h, let same : given ≡ take n bs = cc in same, let same : rest ≡ drop n bs = cc in same)
     go false h e = never cc
 
--- two runs: whatever they are put together to
+-- twice in a row, whatever is made of the two
 module _ {A : Type 0} (f : List ℕ → List ℕ → A) (bs : List ℕ) where
   pub two-first-cut : counted bs ≡ CUT → two-counted f bs ≡ CUT
   unfolding two-counted then-read

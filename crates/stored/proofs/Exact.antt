@@ -1,5 +1,5 @@
 -- What is read from the front of bytes is read from its own bytes and from no other: with anything behind them it is read, and when
--- one of them is missing it is cut. Said of a number, of a run behind its count, and of one thing after another.
+-- one of them is missing it is cut. Said of a number, of bytes behind their count, and of one thing after another.
 use Prim.Native.Nat.{ℕ, zero, suc, _+_, _-_, _<_}
 use mathlib.Core.Path.{_≡_, refl, ap, ap₂, sym, subst, _∙_}
 use mathlib.Core.List.{List, [], _∷_, _++_, append-assoc}
@@ -71,30 +71,30 @@ found-number (a ∷ b ∷ c ∷ d ∷ bs) {n} {rest} e =
     missing (suc (suc (suc zero))) h = refl
     missing (suc (suc (suc (suc k)))) h = absurd (omega arith)
 
-pub exact-run : (run : List ℕ) → Exact (so-many (length run)) run run
+pub exact-bytes : (given : List ℕ) → Exact (so-many (length given)) given given
 unfolding so-many
-exact-run run =
+exact-bytes given =
     record {
-      whole = λ more. rw (le-leb (length run) (length (run ++ more)) (omega (arith, length-append run more))) (ap₂ FRONT (take-append-seam run more) (drop-append-seam run more));
-      cut = λ k h. rw (lt-leb (length run) (length (take k run)) (omega (arith, length-take k run))) refl;
+      whole = λ more. rw (le-leb (length given) (length (given ++ more)) (omega (arith, length-append given more))) (ap₂ FRONT (take-append-seam given more) (drop-append-seam given more));
+      cut = λ k h. rw (lt-leb (length given) (length (take k given)) (omega (arith, length-take k given))) refl;
     }
 
-pub found-run : (n : ℕ) (bs : List ℕ) {run rest : List ℕ} → so-many n bs ≡ FRONT run rest → FoundFront (so-many n) run bs rest (length run)
-found-run n bs {run} {rest} e =
+pub found-bytes : (n : ℕ) (bs : List ℕ) {given rest : List ℕ} → so-many n bs ≡ FRONT given rest → FoundFront (so-many n) given bs rest (length given)
+found-bytes n bs {given} {rest} e =
     let (fits, is, left) = so-many-parts n bs e in
-    let long : length run ≡ n = omega (arith, ap length is, length-take n bs) in
+    let long : length given ≡ n = omega (arith, ap length is, length-take n bs) in
     record {
-      own = run;
+      own = given;
       is = sym (take-append-drop n bs) ∙ ap₂ _++_ (sym is) (sym left);
-      exact = subst (λ k. Exact (so-many k) run run) long (exact-run run);
+      exact = subst (λ k. Exact (so-many k) given given) long (exact-bytes given);
       long = refl;
     }
 
-pub found-counted : (bs : List ℕ) {run rest : List ℕ} → counted bs ≡ FRONT run rest → FoundFront counted run bs rest (4 + length run)
+pub found-counted : (bs : List ℕ) {given rest : List ℕ} → counted bs ≡ FRONT given rest → FoundFront counted given bs rest (4 + length given)
 unfolding counted
 found-counted bs e =
     let (n, between, one, two) = then-parts (number bs) so-many e in
-    found-then number so-many (found-number bs one) (found-run n between two)
+    found-then number so-many (found-number bs one) (found-bytes n between two)
 
 pub found-none : {A : Type 0} (a : A) (bs : List ℕ) → FoundFront (λ later. FRONT a later) a bs bs 0
 found-none a bs = record { own = []; is = refl; exact = record { whole = λ more. refl; cut = λ k h. absurd (omega arith) }; long = refl }

@@ -8,14 +8,14 @@ use lib.ListN.{length, take, drop, getD, length-drop}
 use lib.Seq.{drop-drop, length-take-le}
 use Rattle.kinds.proofs.Tests.{never}
 use Rattle.stored.specs.Counted.{AtFront, CUT, FRONT, counted, four, number, so-many, then-read}
-use Rattle.stored.specs.Places.{number-at, number-told, run-at, run-told}
+use Rattle.stored.specs.Places.{number-at, number-told, counted-at, counted-told}
 use Rattle.stored.specs.Spans.{SpanWithin, part, span}
 use Rattle.stored.specs.declared.Span.{Span}
 use Rattle.stored.specs.declared.NumberAt.the-variants.{Cut as NumberCut, Whole as WholeNumber}
-use Rattle.stored.specs.declared.RunAt.the-variants.{Cut as RunCut, Whole as WholeRun}
+use Rattle.stored.specs.declared.CountedAt.the-variants.{Cut as CountedCut, Whole as WholeCounted}
 use Rattle.stored.proofs.Counted.{number-cut, number-front, number-whole, so-many-parts, then-parts}
 
--- what a run that is found says of the bytes: its own stand behind its count, and the rest behind them
+-- what counted bytes that are found say of all bytes: they stand behind their count, and the rest behind them
 pub record RunFound (bytes : List ℕ) (at : ℕ) (s : Span) : Type 0 where
   pub place : s .at ≡ at + 4
   pub within : SpanWithin bytes s
@@ -51,12 +51,12 @@ module _ (bytes : List ℕ) (at : ℕ) where
       go CUT h told = h
       go (FRONT n rest) h told = never cc
 
-  -- a run is cut with its count, or behind it, or whole
-  pub run-at-cut : number-at bytes at ≡ NumberCut → RunCut ≡ run-at bytes at
-  unfolding run-at number-at counted then-read
-  run-at-cut e = go (number (drop at bytes)) e
+  -- counted bytes are cut with their count, or behind it, or whole
+  pub counted-at-cut : number-at bytes at ≡ NumberCut → CountedCut ≡ counted-at bytes at
+  unfolding counted-at number-at counted then-read
+  counted-at-cut e = go (number (drop at bytes)) e
     where
-      go : (x : AtFront ℕ) → number-told x ≡ NumberCut → RunCut ≡ run-told at (then-read x so-many)
+      go : (x : AtFront ℕ) → number-told x ≡ NumberCut → CountedCut ≡ counted-told at (then-read x so-many)
       go CUT told = refl
       go (FRONT m rest) told = never cc
 
@@ -65,46 +65,46 @@ module _ (bytes : List ℕ) (at : ℕ) where
     unfolding counted then-read
     counted-so = ap (λ x. then-read x so-many) (number-found found .1)
 
-    pub run-at-short : length bytes - (at + 4) < n → RunCut ≡ run-at bytes at
-    unfolding run-at so-many
-    run-at-short h = sym (ap (run-told at) counted-so ∙ rw (lt-leb n (length (drop (at + 4) bytes)) (omega (arith, length-drop (at + 4) bytes))) refl)
+    pub counted-at-short : length bytes - (at + 4) < n → CountedCut ≡ counted-at bytes at
+    unfolding counted-at so-many
+    counted-at-short h = sym (ap (counted-told at) counted-so ∙ rw (lt-leb n (length (drop (at + 4) bytes)) (omega (arith, length-drop (at + 4) bytes))) refl)
 
-    pub run-at-whole : n ≤ length bytes - (at + 4) → WholeRun (span (at + 4) n) ≡ run-at bytes at
-    unfolding run-at so-many
-    run-at-whole h =
+    pub counted-at-whole : n ≤ length bytes - (at + 4) → WholeCounted (span (at + 4) n) ≡ counted-at bytes at
+    unfolding counted-at so-many
+    counted-at-whole h =
         let within : n ≤ length (drop (at + 4) bytes) = omega (arith, length-drop (at + 4) bytes) in
-        sym (ap (run-told at) counted-so ∙ rw (le-leb n (length (drop (at + 4) bytes)) within) (ap (λ k. WholeRun (span (at + 4) k)) (length-take-le n (drop (at + 4) bytes) within)))
+        sym (ap (counted-told at) counted-so ∙ rw (le-leb n (length (drop (at + 4) bytes)) within) (ap (λ k. WholeCounted (span (at + 4) k)) (length-take-le n (drop (at + 4) bytes) within)))
 
   -- and what the code's answer says of the bytes
-  pub run-lost : run-at bytes at ≡ RunCut → counted (drop at bytes) ≡ CUT
-  unfolding run-at
-  run-lost e = go (counted (drop at bytes)) refl e
+  pub counted-lost : counted-at bytes at ≡ CountedCut → counted (drop at bytes) ≡ CUT
+  unfolding counted-at
+  counted-lost e = go (counted (drop at bytes)) refl e
     where
-      go : (x : AtFront (List ℕ)) → counted (drop at bytes) ≡ x → run-told at x ≡ RunCut → counted (drop at bytes) ≡ CUT
+      go : (x : AtFront (List ℕ)) → counted (drop at bytes) ≡ x → counted-told at x ≡ CountedCut → counted (drop at bytes) ≡ CUT
       go CUT h told = h
-      go (FRONT run rest) h told = never cc
+      go (FRONT given rest) h told = never cc
 
-  pub run-there : {run rest : List ℕ} → counted (drop at bytes) ≡ FRONT run rest
-      → (at + 4 + length run ≤ length bytes) × (run ≡ take (length run) (drop (at + 4) bytes)) × (rest ≡ drop (at + 4 + length run) bytes)
+  pub counted-there : {given rest : List ℕ} → counted (drop at bytes) ≡ FRONT given rest
+      → (at + 4 + length given ≤ length bytes) × (given ≡ take (length given) (drop (at + 4) bytes)) × (rest ≡ drop (at + 4 + length given) bytes)
   unfolding counted
-  run-there {run} {rest} h =
+  counted-there {given} {rest} h =
       let (n, between, one, two) = then-parts (number (drop at bytes)) so-many h in
       let (long, behind) = number-front (drop at bytes) one in
       let (fits, is, left) = so-many-parts n between two in
       let same : between ≡ drop (at + 4) bytes = behind ∙ drop-drop 4 at bytes in
-      let size : length run ≡ n = ap length is ∙ length-take-le n between fits in (
+      let size : length given ≡ n = ap length is ∙ length-take-le n between fits in (
         omega (arith, length-drop at bytes, length-drop (at + 4) bytes, ap length same),
         is ∙ ap₂ take (sym size) same,
         left ∙ ap (drop n) same ∙ drop-drop n (at + 4) bytes ∙ ap (λ k. drop (at + 4 + k) bytes) (sym size),
       )
 
-  pub run-found : {s : Span} → run-at bytes at ≡ WholeRun s → RunFound bytes at s
-  unfolding run-at
-  run-found {s} e = go (counted (drop at bytes)) refl e
+  pub counted-found : {s : Span} → counted-at bytes at ≡ WholeCounted s → RunFound bytes at s
+  unfolding counted-at
+  counted-found {s} e = go (counted (drop at bytes)) refl e
     where
-      go : (x : AtFront (List ℕ)) → counted (drop at bytes) ≡ x → run-told at x ≡ WholeRun s → RunFound bytes at s
+      go : (x : AtFront (List ℕ)) → counted (drop at bytes) ≡ x → counted-told at x ≡ WholeCounted s → RunFound bytes at s
       go CUT h told = never cc
-      go (FRONT run rest) h told =
-          let same : span (at + 4) (length run) ≡ s = cc in
-          let (fits, is, left) = run-there h in
+      go (FRONT given rest) h told =
+          let same : span (at + 4) (length given) ≡ s = cc in
+          let (fits, is, left) = counted-there h in
           subst (RunFound bytes at) same (record { place = refl; within = fits; front = h ∙ ap₂ FRONT is left })

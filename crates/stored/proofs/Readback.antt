@@ -1,4 +1,4 @@
--- What was written is read: a number that fits into four bytes, and a run behind its count.
+-- What was written is read: a number that fits into four bytes, and bytes behind their count.
 use Prim.Native.Nat.{ℕ, _+_, _*_, _/_, _%_, _≤_}
 use mathlib.Core.Path.{_≡_, refl, ap, _∙_}
 use mathlib.Core.List.{List, _++_, append-assoc}
@@ -6,7 +6,7 @@ use native.Mathlib.Omega.{arith}
 use native.Mathlib.Nat.{div-add-mod', div-div-eq-div-mul, mod-eq-of-lt}
 use lib.ListN.{length}
 use Rattle.stored.specs.Counted.{FRONT, counted, four, four-bytes, largest, number, so-many, then-read, with-count}
-use Rattle.stored.proofs.Exact.{exact-run}
+use Rattle.stored.proofs.Exact.{exact-bytes}
 
 -- the lowest byte and the rest
 apart : (n q r : ℕ) → n / 256 ≡ q → n % 256 ≡ r → n ≡ r + 256 * q
@@ -24,7 +24,7 @@ pub number-back : (n : ℕ) (more : List ℕ) → n ≤ largest → number (four
 unfolding number four-bytes
 number-back n more h = ap (λ k. FRONT k more) (four-back n h)
 
-pub counted-back : (run more : List ℕ) → length run ≤ largest → counted (with-count run ++ more) ≡ FRONT run more
+pub counted-back : (given more : List ℕ) → length given ≤ largest → counted (with-count given ++ more) ≡ FRONT given more
 unfolding counted with-count then-read
-counted-back run more h =
-    ap (λ x. then-read x so-many) (ap number (append-assoc (four-bytes (length run)) run more) ∙ number-back (length run) (run ++ more) h) ∙ exact-run run .whole more
+counted-back given more h =
+    ap (λ x. then-read x so-many) (ap number (append-assoc (four-bytes (length given)) given more) ∙ number-back (length given) (given ++ more) h) ∙ exact-bytes given .whole more

@@ -1,4 +1,4 @@
--- What is stored, by computing: a run behind its count, one and two. Whoever computes what is stored elsewhere writes `unfolding storing`,
+-- What is stored, by computing: bytes behind their count, once and twice. Whoever computes what is stored elsewhere writes `unfolding storing`,
 -- which opens every word named here.
 use mathlib.Core.Path.{_≡_, refl}
 use mathlib.Core.Bool.{true}

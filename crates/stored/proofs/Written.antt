@@ -1,4 +1,4 @@
--- What is written at a place: the stores of a number's bytes, and a run behind its count, are what is put there.
+-- What is written at a place: the stores of a number's bytes, and those of bytes behind their count, are what is put there.
 use Prim.Native.Nat.{ℕ, suc, _+_, _-_, _/_, _%_, _≤_}
 use mathlib.Core.Path.{_≡_, ap, ap₂, sym, _∙_}
 use mathlib.Core.List.{List, [], _∷_, _++_, append-assoc, append-nil}
@@ -23,18 +23,18 @@ pub number-stored : (l : List ℕ) (at n : ℕ) → at + 4 ≤ length l
 unfolding four-bytes
 number-stored l at n h = four-stores l at (n % 256) (n / 256 % 256) (n / 65536 % 256) (n / 16777216 % 256) h
 
--- a part of the bytes that was lent for a run and is back
-pub bytes-stored : (l run last : List ℕ) (at : ℕ) → at + length run ≤ length l
-    → last ≡ take (length run) run ++ drop (length run) (midOf at (at + length run - at) l)
-    → putMid at (at + length run - at) l last ≡ put-at l at run
-bytes-stored l run last at room e =
-    let size : length (midOf at (at + length run - at) l) ≤ length run = omega (arith, mid-len at (at + length run) l room) in
-    let all : last ≡ run = e ∙ ap₂ _++_ (take-length run) (drop-of-length-le _ size) ∙ append-nil run in
-    ap (λ r. take at l ++ (r ++ postOf at (at + length run - at) l)) all ∙ ap (λ r. take at l ++ (run ++ r)) (post-is at (at + length run) l (omega arith))
-    ∙ sym (append-assoc (take at l) run (drop (at + length run) l))
+-- a part of the bytes that was lent to be written and is back
+pub bytes-stored : (l given last : List ℕ) (at : ℕ) → at + length given ≤ length l
+    → last ≡ take (length given) given ++ drop (length given) (midOf at (at + length given - at) l)
+    → putMid at (at + length given - at) l last ≡ put-at l at given
+bytes-stored l given last at room e =
+    let size : length (midOf at (at + length given - at) l) ≤ length given = omega (arith, mid-len at (at + length given) l room) in
+    let all : last ≡ given = e ∙ ap₂ _++_ (take-length given) (drop-of-length-le _ size) ∙ append-nil given in
+    ap (λ r. take at l ++ (r ++ postOf at (at + length given - at) l)) all ∙ ap (λ r. take at l ++ (given ++ r)) (post-is at (at + length given) l (omega arith))
+    ∙ sym (append-assoc (take at l) given (drop (at + length given) l))
 
 -- the count, then the bytes
-pub run-stored : (l m l′ run : List ℕ) (at : ℕ) → at + 4 + length run ≤ length l → m ≡ put-at l at (four-bytes (length run)) → l′ ≡ put-at m (at + 4) run
-    → l′ ≡ put-at l at (with-count run)
+pub counted-stored : (l m l′ given : List ℕ) (at : ℕ) → at + 4 + length given ≤ length l → m ≡ put-at l at (four-bytes (length given)) → l′ ≡ put-at m (at + 4) given
+    → l′ ≡ put-at l at (with-count given)
 unfolding with-count four-bytes
-run-stored l m l′ run at h one two = two ∙ ap (λ k. put-at k (at + 4) run) one ∙ put-on l at (four-bytes (length run)) (omega arith) run
+counted-stored l m l′ given at h one two = two ∙ ap (λ k. put-at k (at + 4) given) one ∙ put-on l at (four-bytes (length given)) (omega arith) given

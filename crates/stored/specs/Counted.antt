@@ -1,5 +1,5 @@
--- What is kept on disk is made of two things, here and in every request that stores: a number in four bytes, lowest first, and a run of
--- bytes behind its count. Each is read from the front of bytes, or they are cut before its end.
+-- What is kept on disk is made of two things, here and in every request that stores: a number in four bytes, lowest first, and bytes behind
+-- their count. Each is read from the front of some bytes; or the bytes are cut before its end.
 use Prim.Native.Nat.{ℕ, _+_, _*_, _/_, _%_}
 use mathlib.Core.Bool.{cond}
 use mathlib.Core.List.{List, [], _∷_, _++_}
@@ -36,11 +36,11 @@ so-many n bs = cond (leb n (length bs)) (FRONT (take n bs) (drop n bs)) CUT
 unfoldable pub counted : List ℕ → AtFront (List ℕ)
 counted bs = then-read (number bs) so-many
 
--- two runs, one behind the other, put together
+-- counted bytes twice in a row, and what is made of the two
 unfoldable pub two-counted : {A : Type 0} → (List ℕ → List ℕ → A) → List ℕ → AtFront A
 two-counted f bs = then-read (counted bs) (λ one rest. then-read (counted rest) (λ two later. FRONT (f one two) later))
 
--- a number and a run, written
+-- a number, and bytes behind their count, written
 unfoldable pub four-bytes : ℕ → List ℕ
 four-bytes n = n % 256 ∷ n / 256 % 256 ∷ n / 65536 % 256 ∷ n / 16777216 % 256 ∷ []
 

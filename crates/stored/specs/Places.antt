@@ -6,10 +6,10 @@ use Rattle.stored.specs.Counted.{AtFront, CUT, FRONT, counted, number, t
 use Rattle.stored.specs.Spans.{span}
 use Rattle.stored.specs.declared.NumberAt.{NumberAt}
 use Rattle.stored.specs.declared.NumberAt.the-variants.{Cut as NumberCut, Whole as WholeNumber}
-use Rattle.stored.specs.declared.RunAt.{RunAt}
-use Rattle.stored.specs.declared.RunAt.the-variants.{Cut as RunCut, Whole as WholeRun}
-use Rattle.stored.specs.declared.RunsAt.{RunsAt}
-use Rattle.stored.specs.declared.RunsAt.the-variants.{Cut as RunsCut, Both}
+use Rattle.stored.specs.declared.CountedAt.{CountedAt}
+use Rattle.stored.specs.declared.CountedAt.the-variants.{Cut as CountedCut, Whole as WholeCounted}
+use Rattle.stored.specs.declared.TwoCountedAt.{TwoCountedAt}
+use Rattle.stored.specs.declared.TwoCountedAt.the-variants.{Cut as TwoCut, Both}
 
 abbrev pub number-told : AtFront ℕ → NumberAt
 number-told CUT = NumberCut
@@ -18,17 +18,17 @@ number-told (FRONT n rest) = WholeNumber n
 unfoldable pub number-at : (bytes : List ℕ) → (at : ℕ) → NumberAt
 number-at bytes at = number-told (number (drop at bytes))
 
-abbrev pub run-told : (at : ℕ) → AtFront (List ℕ) → RunAt
-run-told at CUT = RunCut
-run-told at (FRONT run rest) = WholeRun (span (at + 4) (length run))
+abbrev pub counted-told : (at : ℕ) → AtFront (List ℕ) → CountedAt
+counted-told at CUT = CountedCut
+counted-told at (FRONT found rest) = WholeCounted (span (at + 4) (length found))
 
-unfoldable pub run-at : (bytes : List ℕ) → (at : ℕ) → RunAt
-run-at bytes at = run-told at (counted (drop at bytes))
+unfoldable pub counted-at : (bytes : List ℕ) → (at : ℕ) → CountedAt
+counted-at bytes at = counted-told at (counted (drop at bytes))
 
--- the second run's count stands behind the first run
-abbrev pub runs-told : (at : ℕ) → AtFront (List ℕ × List ℕ) → RunsAt
-runs-told at CUT = RunsCut
-runs-told at (FRONT (one, two) rest) = Both (span (at + 4) (length one)) (span (at + 4 + length one + 4) (length two))
+-- the second's count stands behind the first
+abbrev pub two-counted-told : (at : ℕ) → AtFront (List ℕ × List ℕ) → TwoCountedAt
+two-counted-told at CUT = TwoCut
+two-counted-told at (FRONT (one, two) rest) = Both (span (at + 4) (length one)) (span (at + 4 + length one + 4) (length two))
 
-unfoldable pub runs-at : (bytes : List ℕ) → (at : ℕ) → RunsAt
-runs-at bytes at = runs-told at (two-counted (λ one two. (one, two)) (drop at bytes))
+unfoldable pub two-counted-at : (bytes : List ℕ) → (at : ℕ) → TwoCountedAt
+two-counted-at bytes at = two-counted-told at (two-counted (λ one two. (one, two)) (drop at bytes))

@@ -1,4 +1,4 @@
--- A span of some bytes: where it begins and how many it has, the bytes that it names, and that these stand there.
+-- A span of some bytes: where it begins and how many it has. Then the bytes that it names, and that all of them are there.
 use Prim.Native.Nat.{ℕ, _+_, _≤_}
 use mathlib.Core.List.{List}
 use lib.ListN.{length, take, drop}

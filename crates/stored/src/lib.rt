@@ -1,18 +1,18 @@
-// What is kept on disk, here and in every request that stores: a number in four bytes, lowest first, and a run of bytes behind its
-// count. Each is read at a place, or is cut by the end of the bytes; and each is written at a place.
+// What is kept on disk: a number in four bytes, lowest first, and bytes behind their count, each read and written at a place; spans and
+// the parts they name; whether bytes are the same. Every request that stores uses these. What the end of the bytes cuts is told as cut.
 ghost use mathlib.Core.Path.{_≡_};
 ghost use Prim.Native.Nat.{_+_, _≤_, _<_, _^_};
 ghost use lib.ListN.{length};
 ghost use Rattle.kinds.specs.Written.{put-at};
 ghost use Rattle.stored.specs.Counted.{four, four-bytes, with-count};
-ghost use Rattle.stored.specs.Places.{number-at, run-at, runs-at};
+ghost use Rattle.stored.specs.Places.{number-at, counted-at, two-counted-at};
 ghost use Rattle.stored.specs.Spans.{SpanWithin, part};
 use bytes::copy;
 
 // The bytes that a number takes.
 pub const NUMBER: usize = 4;
 
-// The largest number that is stored, and so the most bytes of a run.
+// The largest number that is stored, and so the most bytes behind a count.
 pub const LARGEST: u32 = 4_294_967_295;
 
 // Bytes of a slice: where they begin, and how many they are.
@@ -27,14 +27,14 @@ pub enum NumberAt {
     Whole(u32),
 }
 
-// A run of bytes at a place, behind its count.
-pub enum RunAt {
+// Bytes at a place, behind their count.
+pub enum CountedAt {
     Cut,
     Whole(Span),
 }
 
-// Two runs at a place, one behind the other.
-pub enum RunsAt {
+// Two of these at a place, one behind the other.
+pub enum TwoCountedAt {
     Cut,
     Both { first: Span, second: Span },
 }
@@ -67,31 +67,31 @@ pub fn number_at(bytes: &[u8], at: usize) -> NumberAt
     NumberAt::Whole(joined(bytes[at], bytes[at + 1], bytes[at + 2], bytes[at + 3]))
 }
 
-pub fn run_at(bytes: &[u8], at: usize) -> RunAt
-    ensures { λ r. ⌜ r ≡ run-at (now (bytes .entry)) at ⌝ }
+pub fn counted_at(bytes: &[u8], at: usize) -> CountedAt
+    ensures { λ r. ⌜ r ≡ counted-at (now (bytes .entry)) at ⌝ }
 {
     match number_at(bytes, at) {
-        NumberAt::Cut => RunAt::Cut,
+        NumberAt::Cut => CountedAt::Cut,
         NumberAt::Whole(count) => {
             let from = at + NUMBER;
             let len = count as usize;
             if bytes.len() - from < len {
-                return RunAt::Cut;
+                return CountedAt::Cut;
             }
-            RunAt::Whole(Span { at: from, len })
+            CountedAt::Whole(Span { at: from, len })
         }
     }
 }
 
-pub fn runs_at(bytes: &[u8], at: usize) -> RunsAt
-    ensures { λ r. ⌜ r ≡ runs-at (now (bytes .entry)) at ⌝ }
+pub fn two_counted_at(bytes: &[u8], at: usize) -> TwoCountedAt
+    ensures { λ r. ⌜ r ≡ two-counted-at (now (bytes .entry)) at ⌝ }
 {
-    let RunAt::Whole(first) = run_at(bytes, at) else {
-        return RunsAt::Cut;
+    let CountedAt::Whole(first) = counted_at(bytes, at) else {
+        return TwoCountedAt::Cut;
     };
-    match run_at(bytes, first.at + first.len) {
-        RunAt::Cut => RunsAt::Cut,
-        RunAt::Whole(second) => RunsAt::Both { first, second },
+    match counted_at(bytes, first.at + first.len) {
+        CountedAt::Cut => TwoCountedAt::Cut,
+        CountedAt::Whole(second) => TwoCountedAt::Both { first, second },
     }
 }
 
@@ -105,18 +105,18 @@ pub fn put_number(bytes: &mut [u8], at: usize, number: u32)
     bytes[at + 3] = (number / 16_777_216 % 256) as u8;
 }
 
-// Writes the bytes of a run, which stand behind its count.
-fn put_bytes(bytes: &mut [u8], at: usize, run: &[u8])
-    requires { ⌜ at + length (now run) ≤ length (now bytes) ⌝ }
-    ensures { λ _. ⌜ now (bytes .exit) ≡ put-at (now (bytes .entry)) at (now (run .entry)) ⌝ }
+// Writes bytes at a place, without a count.
+fn put_bytes(bytes: &mut [u8], at: usize, given: &[u8])
+    requires { ⌜ at + length (now given) ≤ length (now bytes) ⌝ }
+    ensures { λ _. ⌜ now (bytes .exit) ≡ put-at (now (bytes .entry)) at (now (given .entry)) ⌝ }
 {
-    copy(run, &mut bytes[at..at + run.len()]);
+    copy(given, &mut bytes[at..at + given.len()]);
 }
 
-pub fn put_run(bytes: &mut [u8], at: usize, run: &[u8])
-    requires { ⌜ (length (now run) < 2 ^ 32) × (at + 4 + length (now run) ≤ length (now bytes)) ⌝ }
-    ensures { λ _. ⌜ now (bytes .exit) ≡ put-at (now (bytes .entry)) at (with-count (now (run .entry))) ⌝ }
+pub fn put_counted(bytes: &mut [u8], at: usize, given: &[u8])
+    requires { ⌜ (length (now given) < 2 ^ 32) × (at + 4 + length (now given) ≤ length (now bytes)) ⌝ }
+    ensures { λ _. ⌜ now (bytes .exit) ≡ put-at (now (bytes .entry)) at (with-count (now (given .entry))) ⌝ }
 {
-    put_number(bytes, at, run.len() as u32);
-    put_bytes(bytes, at + NUMBER, run);
+    put_number(bytes, at, given.len() as u32);
+    put_bytes(bytes, at + NUMBER, given);
 }

@@ -1,5 +1,5 @@
-// Writes to standard output: what a service answered, as the five numbers of document 01 and the printed text, and plain words and
-// counts.
+// Writes to standard output: the five numbers of an answer, its printed text, plain words and counts. What cannot be written is said on
+// standard error.
 ghost use Prim.Native.Nat.{_≤_};
 ghost use lib.ListN.{length};
 use io::print_decimal;
@@ -8,18 +8,18 @@ use libc::STDOUT_FILENO;
 use numbers::Numbers;
 
 // What could not be written is said on standard error.
-pub fn mind(written: bool) {
+pub fn warn_unless(written: bool) {
     if !written {
         os::fail(b"standard output");
     }
 }
 
 pub fn say(bytes: &[u8]) {
-    mind(write_all(STDOUT_FILENO, bytes));
+    warn_unless(write_all(STDOUT_FILENO, bytes));
 }
 
 pub fn say_count(count: u64) {
-    mind(print_decimal(STDOUT_FILENO, count));
+    warn_unless(print_decimal(STDOUT_FILENO, count));
 }
 
 fn wide(number: u32) -> u64 {

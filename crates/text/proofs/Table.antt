@@ -1,5 +1,5 @@
--- A table that a rule makes: its first n entries. A constant of the code that is this list by computation has the
--- rule at each of its places.
+-- A table that a rule makes: its first n entries. Where a constant of the code is this list by computation,
+-- it has at each place what the rule gives.
 use Prim.Native.Nat.{ℕ, zero, suc, _<_}
 use mathlib.Core.Path.{_≡_, refl}
 use mathlib.Core.List.{List, [], _∷_}

@@ -1,5 +1,5 @@
-// The text's side of reading a plan: the class of a byte, what is a mark, the character of UTF-8 at a place, and which
-// characters a token may hold.
+// The smallest questions about a text: the class of a byte, whether a mark begins at a place, which character of UTF-8 stands there, and
+// which characters a token may hold.
 ghost use mathlib.Core.Path.{_≡_};
 ghost use Prim.Native.Nat.{_+_, _<_};
 ghost use lib.ListN.{length, getD, drop};
@@ -29,7 +29,7 @@ fn is_annotation(text: &[u8], from: usize) -> bool
     text[from] == b'&'
 }
 
-// Whether a mark begins at a place outside tokens: SP, LF, or an annotation, which means nothing as they do.
+// Whether a mark begins at a place outside tokens: SP, LF, or an annotation. All of them mean nothing.
 pub fn is_mark(text: &[u8], at: usize) -> bool
     requires { ⌜ at < length (now text) ⌝ }
     ensures { λ r. ⌜ r ≡ mark (class (getD (now (text .entry)) at 0)) (drop (at + 1) (now (text .entry))) ⌝ }

@@ -4,18 +4,18 @@ use mathlib.Core.Path.{_≡_, ap, ap₂, _∙_}
 use mathlib.Core.Bool.{Bool}
 use mathlib.Core.List.{List}
 use lib.ListN.{getD, set}
-use Rattle.filing.specs.Answers.{Added, grown, roll-numbers}
-use Rattle.filing.specs.declared.RollAnswer.{RollAnswer}
-use Rattle.keeping.specs.Keeping.{EnteredAs}
-use Rattle.keeping.specs.declared.Entered.{Entered}
-use Rattle.turnip.specs.Rolls.{AddsStored, five-of-roll}
+use Rattle.roll_rules.specs.Answers.{Added, grown, roll-numbers}
+use Rattle.roll_rules.specs.declared.RollAnswer.{RollAnswer}
+use Rattle.roll_add.specs.Entering.{EnteredAs}
+use Rattle.roll_add.specs.declared.Entered.{Entered}
+use Rattle.turnip.specs.RollArrays.{AddsInArray, five-of-roll}
 
 abbrev pub counted : (tally : List ℕ) → (filed done : ℕ) → List ℕ
 counted tally filed done = set (set tally 0 filed) 1 done
 
-pub adds-stored : {a : Added} {r : Entered} {buffer′ tally tally′ stored : List ℕ} → EnteredAs a r buffer′
-    → tally′ ≡ counted tally (grown (r .filed) (getD tally 0 0)) (grown (r .done) (getD tally 1 0)) → stored ≡ five-of-roll (roll-numbers (r .answer)) → AddsStored a tally buffer′ tally′ stored
-adds-stored {a} {r} {buffer′} {tally} entered counts told =
+pub adds-in-array : {a : Added} {r : Entered} {buffer′ tally tally′ array : List ℕ} → EnteredAs a r buffer′
+    → tally′ ≡ counted tally (grown (r .filed) (getD tally 0 0)) (grown (r .done) (getD tally 1 0)) → array ≡ five-of-roll (roll-numbers (r .answer)) → AddsInArray a tally buffer′ tally′ array
+adds-in-array {a} {r} {buffer′} {tally} entered counts told =
     record {
       told = told ∙ ap (λ (x : RollAnswer). five-of-roll (roll-numbers x)) (entered .answer);
       bytes = entered .bytes;

@@ -1,2 +1,2 @@
-pub mod Rolls
-pub mod Stored
+pub mod Arrays
+pub mod RollArrays

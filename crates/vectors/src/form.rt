@@ -186,7 +186,7 @@ fn fill(line: &[u8], from: usize, room: &mut [u8]) -> Field {
 }
 
 // Puts the run that begins at a place to the front of the room. A pattern of no bytes fills nothing: it is malformed.
-fn put_run(line: &[u8], from: usize, room: &mut [u8]) -> Field
+fn put_repeated(line: &[u8], from: usize, room: &mut [u8]) -> Field
     ensures { λ r. ⌜ r .value ≤ length (now (room .exit)) ⌝ }
 {
     let run = number(line, from);
@@ -214,7 +214,7 @@ pub fn expand(line: &[u8], from: usize, room: &mut [u8]) -> Field
     let mut at = runs.next;
     let mut filled = 0;
     while 0 < left {
-        let run = put_run(line, at, &mut room[filled..]);
+        let run = put_repeated(line, at, &mut room[filled..]);
         at = run.next;
         if at == NOWHERE {
             return Field::malformed();

@@ -1,5 +1,6 @@
-// Runs READ and RUN on each case of standard input, and says how many do not answer or write what the case expects,
-// and how many runs leave a number of the memory that is not 0 or change a byte of the output past the text.
+// A program that runs READ and RUN on each case of standard input, and compares what they answer and write with what the case expects. It
+// says how many cases differ. It also says how many runs leave a number of the memory that is not 0, or change a byte of the output past
+// the text.
 //
 // A case is a line, made by tests/vectors-to-stdin.py:
 //
@@ -67,8 +68,8 @@ fn is_expected(numbers: Numbers, case: Case) -> bool {
         && wide(numbers.place) == case.place
 }
 
-// Whether READ answers and writes what a case expects. What the output is to become was made beside it, so that one
-// comparison holds each byte to the text expected or to what the output was filled with.
+// Whether READ answers and writes what a case expects. `expected` is what the whole output is to become. So one comparison holds each byte
+// to the text expected, or to what the output was filled with.
 fn reads(case: Case, text: &[u8], output: &mut [u8], expected: &[u8]) -> bool {
     fill_output(output);
     let numbers = of_read(read::read(text, output));

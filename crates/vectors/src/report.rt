@@ -44,7 +44,7 @@ fn one_more(count: u64) -> u64 {
     if count < u64::MAX { count + 1 } else { count }
 }
 
-// The count with one more of what should not be, if it is not as it should be.
+// The count, with one more if something is not as it should be.
 fn one_more_unless(as_it_should: bool, count: u64) -> u64 {
     if as_it_should { count } else { one_more(count) }
 }
@@ -118,7 +118,7 @@ impl Tally {
         }
     }
 
-    // With no line end: of runs there is more to say.
+    // Without a line end, since there is more to say of runs.
     fn print(self, kind: &[u8]) {
         say(kind);
         say_count(self.cases);

@@ -24,8 +24,8 @@ start-requires c κs = search (needs, from-small)
 loop-holds : tie.Need-loop-holds Inv-loop μ-loop
 loop-holds c = search (needs, hunt-first)
 
-opens-requires : tie.Need-opens-requires Inv-loop μ-loop
-opens-requires c κs = (search needs, search hunt-low)
+block-opens-requires : tie.Need-block-opens-requires Inv-loop μ-loop
+block-opens-requires c κs = (search needs, search hunt-low)
 
 cell-requires : tie.Need-cell-requires Inv-loop μ-loop
 cell-requires c κs = search needs
@@ -41,7 +41,7 @@ returns c =
     let s = c .before .before .before in
     let y = s .before .before in
     let t = y .before .before in
-    hunt-found (t .before .before .before .loop .inv) (t .if1 .taken) _ (y .before .opens .ensures) (y .if2 .taken) (s .before .cell .ensures) _ (s .scan .ensures) _
+    hunt-found (t .before .before .before .loop .inv) (t .if1 .taken) _ (y .before .block-opens .ensures) (y .if2 .taken) (s .before .cell .ensures) _ (s .scan .ensures) _
     (c .before .spot .given .1)
 
 enum-told : tie.Need-enum-told Inv-loop μ-loop
@@ -58,8 +58,8 @@ loop-again c =
     let a = c .before .before in
     let t = a .before in
     let inv = t .before .before .before .loop .inv in
-    ⊎-elim (λ w. hunt-past inv (t .if1 .taken) _ (a .opens .ensures) (w .0 .taken) (w .1 .ensures) _ (w .2 .ensures) (w .4 .given .1) _ (c .link-of .ensures))
-    (λ w. hunt-on inv (t .if1 .taken) _ (a .opens .ensures) (w .left) _ (c .link-of .ensures)) (c .before .if2 .came)
+    ⊎-elim (λ w. hunt-past inv (t .if1 .taken) _ (a .block-opens .ensures) (w .0 .taken) (w .1 .ensures) _ (w .2 .ensures) (w .4 .given .1) _ (c .link-of .ensures))
+    (λ w. hunt-on inv (t .if1 .taken) _ (a .block-opens .ensures) (w .left) _ (c .link-of .ensures)) (c .before .if2 .came)
 
 returns-2 : tie.Need-returns-2 Inv-loop μ-loop
 returns-2 c = hunt-none (c .before .before .before .loop .inv) (c .if1 .left)
@@ -73,7 +73,7 @@ hunt-spec =
     close-requires
     start-requires
     loop-holds
-    opens-requires
+    block-opens-requires
     cell-requires
     scan-requires
     enum-known-spot

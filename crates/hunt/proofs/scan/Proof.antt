@@ -47,8 +47,8 @@ returns c =
 enum-told : tie.Need-enum-told Inv-loop μ-loop
 enum-told c = search needs
 
-last-port-requires : tie.Need-last-port-requires Inv-loop μ-loop
-last-port-requires c κs =
+end-port-requires : tie.Need-end-port-requires Inv-loop μ-loop
+end-port-requires c κs =
     let t = c .before .before .before .before in
     scan-cell (t .before .before .before .loop .inv) (t .if1 .taken)
 
@@ -56,7 +56,7 @@ link-of-requires-2 : tie.Need-link-of-requires-2 Inv-loop μ-loop
 link-of-requires-2 c κs =
     let k = c .before .before .before .before in
     let inv = k .before .before .before .before .loop .inv in
-    (inv .lent, scan-next inv (k .before .if1 .taken) (k .kind-at .result) _ (c .last-port .ensures))
+    (inv .lent, scan-next inv (k .before .if1 .taken) (k .kind-at .result) _ (c .end-port .ensures))
 
 loop-less : tie.Need-loop-less Inv-loop μ-loop
 loop-less c =
@@ -64,7 +64,7 @@ loop-less c =
     let r = e .before .before in
     let t = r .before .before in
     scan-past (t .before .before .before .loop .inv) (t .if1 .taken) _ (r .before .kind-at .ensures) _ (r .ready-at .ensures) (e .enum-told .given .1)
-    _ _ (c .before .last-port .ensures) (c .link-of2 .ensures) .1
+    _ _ (c .before .end-port .ensures) (c .link-of2 .ensures) .1
 
 loop-again : tie.Need-loop-again Inv-loop μ-loop
 loop-again c =
@@ -72,7 +72,7 @@ loop-again c =
     let r = e .before .before in
     let t = r .before .before in
     scan-past (t .before .before .before .loop .inv) (t .if1 .taken) _ (r .before .kind-at .ensures) _ (r .ready-at .ensures) (e .enum-told .given .1)
-    _ _ (c .before .last-port .ensures) (c .link-of2 .ensures) .0
+    _ _ (c .before .end-port .ensures) (c .link-of2 .ensures) .0
 
 returns-2 : tie.Need-returns-2 Inv-loop μ-loop
 returns-2 c =
@@ -94,7 +94,7 @@ scan-spec =
     enum-known-spot
     returns
     enum-told
-    last-port-requires
+    end-port-requires
     link-of-requires-2
     loop-less
     loop-again

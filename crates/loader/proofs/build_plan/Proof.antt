@@ -40,8 +40,8 @@ next-requires c κs = search needs
 enum-told : tie.Need-enum-told Inv-loop μ-loop
 enum-told c = search needs
 
-finish-requires : tie.Need-finish-requires Inv-loop μ-loop
-finish-requires c κs = search (needs, ready)
+end-plan-requires : tie.Need-end-plan-requires Inv-loop μ-loop
+end-plan-requires c κs = search (needs, ready)
 
 same-length : tie.Need-same-length Inv-loop μ-loop
 same-length c = search needs
@@ -53,10 +53,10 @@ returns c =
     let o = n .before .loop .inv in
     let r = n .before .before .before .before in
     let outer = o .same ∙ r .fresh .ensures .0 .outer in (
-      λ p h. onward-end o (f .finish .ensures) (walked-over (text (n .before)) (n .next .ensures) (f .before .before .enum-told .given .1) _ (o .ahead .shows)) p (rw outer h),
+      λ p h. onward-end o (f .end-plan .ensures) (walked-over (text (n .before)) (n .next .ensures) (f .before .before .enum-told .given .1) _ (o .ahead .shows)) p (rw outer h),
       (
-        f .finish .ensures .outer ∙ outer,
-        aside-on (r .fresh .ensures .1) (onward-aside o (f .finish .ensures) (r .fresh .ensures .0 .outer)),
+        f .end-plan .ensures .outer ∙ outer,
+        aside-on (r .fresh .ensures .1) (onward-aside o (f .end-plan .ensures) (r .fresh .ensures .0 .outer)),
       ),
     )
 
@@ -88,7 +88,7 @@ build-plan-spec =
     loop-holds
     next-requires
     enum-told
-    finish-requires
+    end-plan-requires
     same-length
     returns
     enum-known-piece

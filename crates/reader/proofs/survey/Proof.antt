@@ -30,12 +30,12 @@ items-holds : tie.Need-items-holds Inv-loop μ-loop Inv-items μ-items
 items-holds c =
     survey-start _ _ _ (c .before .before .pre) (c .nothing-yet .ensures)
 
-finish-requires : tie.Need-finish-requires Inv-loop μ-loop Inv-items μ-items
-finish-requires c κs = search needs
+end-survey-requires : tie.Need-end-survey-requires Inv-loop μ-loop Inv-items μ-items
+end-survey-requires c κs = search needs
 
 returns : tie.Need-returns Inv-loop μ-loop Inv-items μ-items
 returns c =
-    c .finish .ensures ∙ survey-end (c .before .before .items .inv) (c .before .if1 .taken)
+    c .end-survey .ensures ∙ survey-end (c .before .before .items .inv) (c .before .if1 .taken)
 
 shared-slice-read-read-byte :
     tie.Need-shared-slice-read-read-byte Inv-loop μ-loop Inv-items μ-items
@@ -150,7 +150,7 @@ survey-spec =
     μ-items
     nothing-yet-requires
     items-holds
-    finish-requires
+    end-survey-requires
     returns
     shared-slice-read-read-byte
     read-byte-requires

@@ -4,8 +4,8 @@ use Rattle.reader.proofs.Counted.{byte-end, byte-empty, byte-whole, byt
 use Rattle.reader.proofs.token_byte.Statement.{statement}
 use Rattle.reader.proofs.token_byte.Tie as tie
 
-faulty-requires : tie.Need-faulty-requires
-faulty-requires c κs = search needs
+token-faulty-requires : tie.Need-token-faulty-requires
+token-faulty-requires c κs = search needs
 
 returns : tie.Need-returns
 returns c = search (needs, byte-end)
@@ -16,8 +16,8 @@ shared-slice-read-if2 c = search needs
 add-if3 : tie.Need-add-if3
 add-if3 c = search needs
 
-faulty-requires-2 : tie.Need-faulty-requires-2
-faulty-requires-2 c κs = search needs
+token-faulty-requires-2 : tie.Need-token-faulty-requires-2
+token-faulty-requires-2 c κs = search needs
 
 returns-2 : tie.Need-returns-2
 returns-2 c = search (needs, byte-empty)
@@ -31,8 +31,8 @@ sub-last c = search needs
 add-last : tie.Need-add-last
 add-last c = search needs
 
-faulty-requires-3 : tie.Need-faulty-requires-3
-faulty-requires-3 c κs = search needs
+token-faulty-requires-3 : tie.Need-token-faulty-requires-3
+token-faulty-requires-3 c κs = search needs
 
 returns-4 : tie.Need-returns-4
 returns-4 c = search (needs, byte-last)
@@ -47,16 +47,16 @@ pub token-byte-spec : {M : Type 1} → statement M
 token-byte-spec =
     tie.close
     (tie.spec
-    faulty-requires
+    token-faulty-requires
     returns
     shared-slice-read-if2
     add-if3
-    faulty-requires-2
+    token-faulty-requires-2
     returns-2
     returns-3
     sub-last
     add-last
-    faulty-requires-3
+    token-faulty-requires-3
     returns-4
     token-character-requires
     returns-5)

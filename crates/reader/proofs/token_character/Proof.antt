@@ -20,8 +20,8 @@ enum-known-value c = search needs
 enum-told : tie.Need-enum-told
 enum-told c = search needs
 
-faulty-requires : tie.Need-faulty-requires
-faulty-requires c κs = search needs
+token-faulty-requires : tie.Need-token-faulty-requires
+token-faulty-requires c κs = search needs
 
 returns : tie.Need-returns
 returns c = search (needs, character-malformed)
@@ -46,8 +46,8 @@ sub-reached c = own-width c .0
 add-reached : tie.Need-add-reached
 add-reached c = search needs
 
-faulty-requires-2 : tie.Need-faulty-requires-2
-faulty-requires-2 c κs = search needs
+token-faulty-requires-2 : tie.Need-token-faulty-requires-2
+token-faulty-requires-2 c κs = search needs
 
 returns-2 : tie.Need-returns-2
 returns-2 c = search (needs, character-brace)
@@ -55,14 +55,14 @@ returns-2 c = search (needs, character-brace)
 may-hold-requires : tie.Need-may-hold-requires
 may-hold-requires c κs = search needs
 
-faulty-requires-3 : tie.Need-faulty-requires-3
-faulty-requires-3 c κs = search needs
+token-faulty-requires-3 : tie.Need-token-faulty-requires-3
+token-faulty-requires-3 c κs = search needs
 
 returns-3 : tie.Need-returns-3
 returns-3 c = search (needs, character-forbidden, not-true)
 
-faulty-requires-4 : tie.Need-faulty-requires-4
-faulty-requires-4 c κs = omega (arith, own-width (c .before .before .before .before) .1, c .if3 .taken)
+token-faulty-requires-4 : tie.Need-token-faulty-requires-4
+token-faulty-requires-4 c κs = omega (arith, own-width (c .before .before .before .before) .1, c .if3 .taken)
 
 returns-4 : tie.Need-returns-4
 returns-4 c = search (needs, character-over, not-false)
@@ -77,16 +77,16 @@ token-character-spec =
     character-at-requires
     enum-known-value
     enum-told
-    faulty-requires
+    token-faulty-requires
     returns
     cast-reached
     sub-reached
     add-reached
-    faulty-requires-2
+    token-faulty-requires-2
     returns-2
     may-hold-requires
-    faulty-requires-3
+    token-faulty-requires-3
     returns-3
-    faulty-requires-4
+    token-faulty-requires-4
     returns-4
     returns-5)

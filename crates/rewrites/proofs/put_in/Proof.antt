@@ -1,4 +1,4 @@
--- `put_in`: the run's end is linked on, then the port before it.
+-- `put_in`: the last of the ports is linked on, then the port before them.
 use mathlib.Core.Path.{refl}
 use borrow.Author.Needs.{needs}
 use Rattle.memory.proofs.Whole.{aside-on}

@@ -1,4 +1,4 @@
--- `put_bytes`: the part that was lent for the run is the run.
+-- `put_bytes`: the part that was lent for the bytes is now these bytes.
 use native.Mathlib.Omega.{arith}
 use borrow.Author.Needs.{needs}
 use Rattle.stored.proofs.Written.{bytes-stored}
@@ -26,7 +26,7 @@ same-length c = search needs
 returns : tie.Need-returns
 returns c =
     let a = c .before .before .before .before .before .before .args in
-    bytes-stored (a .bytes .now) (a .run .now) _ (a .at) (omega arith) (c .before .before .copy .ensures .1)
+    bytes-stored (a .bytes .now) (a .given .now) _ (a .at) (omega arith) (c .before .before .copy .ensures .1)
 
 pub put-bytes-spec : {M : Type 1} → statement M
 put-bytes-spec =

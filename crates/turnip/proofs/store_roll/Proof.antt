@@ -1,7 +1,7 @@
 -- `store_roll`: the numbers are those of the answer, in the order of `five-of-roll`.
 use borrow.Author.Needs.{needs}
 use mathlib.Core.Path.{ap}
-use Rattle.turnip.specs.Rolls.{five-of-roll}
+use Rattle.turnip.specs.RollArrays.{five-of-roll}
 use Rattle.turnip.proofs.store_roll.Statement.{statement}
 use Rattle.turnip.proofs.store_roll.Tie as tie
 

@@ -1,6 +1,6 @@
 -- `turnip_link`: what the service did, and its five numbers stored.
 use borrow.Author.Needs.{needs}
-use Rattle.turnip.proofs.Told.{answer-stored}
+use Rattle.turnip.proofs.Told.{answer-in-array}
 use Rattle.turnip.proofs.turnip_link.Statement.{statement}
 use Rattle.turnip.proofs.turnip_link.Tie as tie
 
@@ -19,7 +19,7 @@ same-length c = search needs
 returns : tie.Need-returns
 returns c =
     let o = c .before .before in
-    answer-stored _ (o .before .before .before .link .ensures) (o .of-link .ensures) (c .store .ensures)
+    answer-in-array _ (o .before .before .before .link .ensures) (o .of-link .ensures) (c .store .ensures)
 
 pub turnip-link-spec : {M : Type 1} → statement M
 turnip-link-spec =

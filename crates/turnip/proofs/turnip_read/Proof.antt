@@ -1,6 +1,6 @@
 -- `turnip_read`: what the service did, and its five numbers stored.
 use borrow.Author.Needs.{needs}
-use Rattle.turnip.proofs.Told.{answer-stored}
+use Rattle.turnip.proofs.Told.{answer-in-array}
 use Rattle.turnip.proofs.turnip_read.Statement.{statement}
 use Rattle.turnip.proofs.turnip_read.Tie as tie
 
@@ -19,7 +19,7 @@ same-length c = search needs
 returns : tie.Need-returns
 returns c =
     let o = c .before .before in
-    answer-stored _ (o .before .before .before .read .ensures) (o .of-read .ensures) (c .store .ensures)
+    answer-in-array _ (o .before .before .before .read .ensures) (o .of-read .ensures) (c .store .ensures)
 
 pub turnip-read-spec : {M : Type 1} → statement M
 turnip-read-spec =

@@ -1,7 +1,7 @@
 -- `turnip_roll_entry`: what `entry` tells, stored.
 use mathlib.Core.Path.{ap, _∙_}
 use borrow.Author.Needs.{needs}
-use Rattle.turnip.specs.Rolls.{five-of-entry}
+use Rattle.turnip.specs.RollArrays.{five-of-entry}
 use Rattle.turnip.proofs.turnip_roll_entry.Statement.{statement}
 use Rattle.turnip.proofs.turnip_roll_entry.Tie as tie
 

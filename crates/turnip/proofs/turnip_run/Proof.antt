@@ -1,6 +1,6 @@
 -- `turnip_run`: what the service did, and its five numbers stored.
 use borrow.Author.Needs.{needs}
-use Rattle.turnip.proofs.Told.{answer-stored}
+use Rattle.turnip.proofs.Told.{answer-in-array}
 use Rattle.turnip.proofs.turnip_run.Statement.{statement}
 use Rattle.turnip.proofs.turnip_run.Tie as tie
 
@@ -22,7 +22,7 @@ same-length-2 c = search needs
 returns : tie.Need-returns
 returns c =
     let o = c .before .before in
-    answer-stored _ (o .before .before .before .before .before .run .ensures) (o .of-run .ensures) (c .store .ensures)
+    answer-in-array _ (o .before .before .before .before .before .run .ensures) (o .of-run .ensures) (c .store .ensures)
 
 pub turnip-run-spec : {M : Type 1} → statement M
 turnip-run-spec =

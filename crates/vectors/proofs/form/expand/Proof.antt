@@ -18,17 +18,17 @@ number-requires c κs = search needs
 loop-holds : tie.Need-loop-holds Inv-loop μ-loop
 loop-holds c = search needs
 
-sub-put-run : tie.Need-sub-put-run Inv-loop μ-loop
-sub-put-run c = search needs
+sub-put-repeated : tie.Need-sub-put-repeated Inv-loop μ-loop
+sub-put-repeated c = search needs
 
-part-put-run-start : tie.Need-part-put-run-start Inv-loop μ-loop
-part-put-run-start c = search needs
+part-put-repeated-start : tie.Need-part-put-repeated-start Inv-loop μ-loop
+part-put-repeated-start c = search needs
 
-part-put-run-end : tie.Need-part-put-run-end Inv-loop μ-loop
-part-put-run-end c = search needs
+part-put-repeated-end : tie.Need-part-put-repeated-end Inv-loop μ-loop
+part-put-repeated-end c = search needs
 
-put-run-requires : tie.Need-put-run-requires Inv-loop μ-loop
-put-run-requires c κs = search needs
+put-repeated-requires : tie.Need-put-repeated-requires Inv-loop μ-loop
+put-repeated-requires c κs = search needs
 
 malformed-requires : tie.Need-malformed-requires Inv-loop μ-loop
 malformed-requires c κs = search needs
@@ -65,10 +65,10 @@ expand-spec =
     μ-loop
     number-requires
     loop-holds
-    sub-put-run
-    part-put-run-start
-    part-put-run-end
-    put-run-requires
+    sub-put-repeated
+    part-put-repeated-start
+    part-put-repeated-end
+    put-repeated-requires
     malformed-requires
     same-length
     returns

@@ -1,4 +1,0 @@
-pub mod Answers
-pub mod EntriesStand
-pub mod Format
-pub mod Rules

@@ -1,2 +1,0 @@
-pub mod WeighedSoFar
-pub mod Weighing

@@ -1,0 +1,2 @@
+pub mod EntriesStand
+pub mod Format

@@ -1,0 +1,12 @@
+pub mod Added
+pub mod Adding
+pub mod Annotations
+pub mod ArrayCalls
+pub mod Cut
+pub mod DoneHasText
+pub mod Exact
+pub mod Instances
+pub mod Kept
+pub mod Listed
+pub mod OneAnswer
+pub mod RunsFiled

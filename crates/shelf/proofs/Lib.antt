@@ -1,4 +1,0 @@
-pub mod Keeping
-pub mod Noting
-pub mod Seeking
-pub mod Standing

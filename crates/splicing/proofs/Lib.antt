@@ -1,4 +1,0 @@
-pub mod CopyingOn
-pub mod PutFor
-pub mod SplicedSoFar
-pub mod Standing

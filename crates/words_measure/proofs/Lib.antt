@@ -1,0 +1,2 @@
+pub mod MeasuredSoFar
+pub mod Measuring

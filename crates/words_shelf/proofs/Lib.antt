@@ -1,0 +1,4 @@
+pub mod Keeping
+pub mod Noting
+pub mod Seeking
+pub mod StandsFor

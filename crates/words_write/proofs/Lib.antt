@@ -1,0 +1,4 @@
+pub mod CopyingOn
+pub mod PutFor
+pub mod WrittenBefore
+pub mod WrittenSoFar
