@@ -9,9 +9,9 @@ Each has a case a line, each kind with fields of its own, and RULES telling whic
     tidy RULES TEXT OUTLEN = NUMBER STEPS CELLS LENGTH PLACE OUT
     run RULES TEXT QUOTA MEMLEN OUTLEN = NUMBER STEPS CELLS LENGTH PLACE OUT
 
-base.txt supposes none (`-`): its answers with 14 are changed to what they are since request 1 (token_faults.py). faults.txt
+base.txt supposes none (`-`): its answers with 14 are changed to what they are since request 1 (shared/token_faults.py). faults.txt
 supposes that one (`s`), and annotations.txt request 2 too (`sa`), so it is taken as it stands. Of the older two, lines whose answer
-supposes that an annotation is an item are left out (annotations.py): 78 of base.txt (8 check, 7 tidy, 63 run), none of
+supposes that an annotation is an item are left out (shared/annotations.py): 78 of base.txt (8 check, 7 tidy, 63 run), none of
 faults.txt; annotations.txt has 804 lines for such texts. Lines of other kinds are left out.
 
 What is written has a case a line too, in the same order, and the same fields for every kind, so that one short proved
@@ -27,9 +27,11 @@ and its pattern in hex, which is repeated until LENGTH bytes are filled. No byte
 `2 3 5b 1 5d`, and `5b5d*2` is `1 4 5b5d`.
 """
 
+import pathlib
 import re
 import sys
 
+sys.path.insert(0, str(pathlib.Path(__file__).resolve().parent / "shared"))
 from annotations import supposes_item
 from base_form import expand, runs
 from token_faults import renumbered

@@ -96,6 +96,7 @@ pub run-saved : (n quota : ℕ) (p : Plan ℕ) → as-run (run-plan n quota (pla
 run-saved n quota p = as-run-bare n quota (placed 0 p) ∙ ap (λ q. as-run (run-plan n quota q)) (bare-placed 0 p) ∙ sym (as-run-bare n quota p)
 
 -- a text that is accepted runs without its marks as it did
+-- a theorem of annotations
 pub runs-without-marks : (lim : Limits) → Roomy lim → (n quota : ℕ) → n ≤ lim .cells → (text : List ℕ) {p : Plan ℕ} → accept lim n text ≡ ACCEPTED p
     → run-outcome lim n quota (without-marks OUTSIDE text) ≡ run-outcome lim n quota text
 runs-without-marks lim roomy n quota lent text {p} h =

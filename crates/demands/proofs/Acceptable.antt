@@ -29,6 +29,7 @@ use Rattle.demands.proofs.Meanings.{reads-not-unreadable, reads-one, re
 use Rattle.demands.proofs.PassedOn.{refused-by-its-text}
 
 -- the equivalent, in the words of the demands; `acceptable-exactly-when` of the definitions' laws spells out the limits
+-- a theorem of acceptable texts
 pub acceptable-reads : (text : List ℕ) → (acceptable standard text ≡ true) ↔ ((p : Bare) × Reads cellLimit text p)
 acceptable-reads text = (
   λ e. let a = acceptable-plan standard text e in (bare (a .plan), record { within = omega arith; placed = a .plan; accepted = a .accepted; same = refl }),
@@ -36,6 +37,7 @@ acceptable-reads text = (
 )
 
 -- and one that is not is refused by a row of the table
+-- a theorem of acceptable texts
 pub unacceptable-exactly-when : (text : List ℕ) → (acceptable standard text ≡ false) ↔ ((u : Unread) × Unreadable standard cellLimit text u)
 unacceptable-exactly-when text = (
   λ e. let (u, refused) = unacceptable-refused standard text e in (u, unread-iff standard cellLimit text u .0 refused),
@@ -43,6 +45,7 @@ unacceptable-exactly-when text = (
 )
 
 -- "nothing but OUTSHORT could refuse it": no call of READ is refused otherwise, whatever its output
+-- a theorem of acceptable texts
 pub nothing-but-outshort : (text : List ℕ) → (acceptable standard text ≡ true)
     ↔ ((out : List ℕ) (r : ReadAnswer) (out′ : List ℕ) → ReadsOut text out r out′ → IsRefusal read-refusal-numbers (read-numbers r) → read-numbers r .number ≡ OUTSHORT)
 nothing-but-outshort text = (λ e out r out′ call refused. to (acceptable-reads text .0 e .1) (read-case call) refused, λ h. from h)
@@ -72,6 +75,7 @@ nothing-printed (block l b p) h = absurd (omega arith)
 
 module _ {text : List ℕ} {p : Bare} (reads : Reads cellLimit text p) where
   -- "An output of no bytes gives OUTSHORT and the bytes needed, unless the plan is empty."
+  -- a theorem of acceptable texts
   pub no-bytes-lent : {r : ReadAnswer} {out′ : List ℕ} → ReadsOut text [] r out′
       → (p ≢ end → read-numbers r ≡ outshort-numbers (length (print p))) × (p ≡ end → read-numbers r ≡ given-numbers 0 0)
   unfolding print cells
@@ -90,6 +94,7 @@ module _ {text : List ℕ} {p : Bare} (reads : Reads cellLimit text p) where
       )
 
   -- an output that is long enough gives READ, with the cells and the length
+  -- a theorem of acceptable texts
   pub room-lent : {out : List ℕ} {r : ReadAnswer} {out′ : List ℕ} → ReadsOut text out r out′ → length (print p) ≤ length out
       → r ≡ Read (cells p) (length (print p))
   room-lent {out} call room = go (read-case call)
@@ -100,6 +105,7 @@ module _ {text : List ℕ} {p : Bare} (reads : Reads cellLimit text p) where
       go (is-read g fits) = ap (λ (q : Bare). Read (cells q) (length (print q))) (reads-one g reads)
 
 -- any other refusal stands whatever the output
+-- a theorem of acceptable texts
 pub refused-whatever-the-output : {text out out₂ : List ℕ} {r s : ReadAnswer} {out′ out₂′ : List ℕ} → ReadsOut text out r out′ → ReadsOut text out₂ s out₂′
     → (u : Unread) → (read-numbers r ≡ unread-numbers u) ↔ (read-numbers s ≡ unread-numbers u)
 refused-whatever-the-output call call₂ u = (
@@ -108,6 +114,7 @@ refused-whatever-the-output call call₂ u = (
 )
 
 -- A version that refuses all texts: the empty text is never refused, nor is any acceptable text with room for it.
+-- a theorem of acceptable texts
 pub empty-text-read : {out : List ℕ} {r : ReadAnswer} {out′ : List ℕ} → ReadsOut [] out r out′ → r ≡ Read 0 0
 unfolding accept read-text read-from fit cells print relabel
 empty-text-read call =
@@ -115,9 +122,11 @@ empty-text-read call =
     room-lent reads call (omega arith)
 
 -- A version that prints the text as read: what is saved is the text without its marks, so a text that has any is never printed as read.
+-- a theorem of acceptable texts
 pub saved-without-marks : {text out : List ℕ} {r : ReadAnswer} {out′ : List ℕ} → ReadsOut text out r out′ → Unrefused (read-numbers r) → saved (read-numbers r) out′ ≡ without-marks OUTSIDE text
 saved-without-marks call unrefused = let x = text-read call unrefused in read-saved x ∙ reads-printed (x .reads)
 
+-- a theorem of acceptable texts
 pub marks-never-printed : {text out : List ℕ} {r : ReadAnswer} {out′ : List ℕ} → ReadsOut text out r out′ → Unrefused (read-numbers r)
     → without-marks OUTSIDE text ≢ text → saved (read-numbers r) out′ ≢ text
 marks-never-printed call unrefused marked as-read = marked (sym (saved-without-marks call unrefused) ∙ as-read)

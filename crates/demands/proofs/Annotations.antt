@@ -25,10 +25,12 @@ use Rattle.demands.proofs.Cases.{ended-saved, read-saved, run-ended, te
 use Rattle.demands.proofs.Meanings.{ends-sound, reads-one, reads-sound, sound-unannotated}
 
 -- no saved text holds an annotation
+-- a theorem of annotations
 pub read-unannotated : {text out : List ℕ} {r : ReadAnswer} {out′ : List ℕ} → ReadsOut text out r out′ → Unrefused (read-numbers r) → HoldsAnnotation (saved (read-numbers r) out′) → ⊥
 read-unannotated call unrefused =
     let x = text-read call unrefused in subst (λ t. HoldsAnnotation t → ⊥) (sym (read-saved x)) (sound-unannotated (reads-sound (x .reads)))
 
+-- a theorem of annotations
 pub run-unannotated : {text : List ℕ} {quota : ℕ} {memory out : List ℕ} {r : RunAnswer} {memory′ out′ : List ℕ}
     → Runs text quota memory out r memory′ out′ → Unrefused (run-numbers r) → HoldsAnnotation (saved (run-numbers r) out′) → ⊥
 run-unannotated call unrefused =
@@ -36,6 +38,7 @@ run-unannotated call unrefused =
     subst (λ t. HoldsAnnotation t → ⊥) (sym (ended-saved run)) (sound-unannotated (ends-sound (run .ends)))
 
 -- a text reads without its marks as the same plan
+-- a theorem of annotations
 pub without-marks-reads : {n : ℕ} {text : List ℕ} {p : Bare} → Reads n text p → Reads n (without-marks OUTSIDE text) p
 without-marks-reads {n} {text} g =
     record {
@@ -46,17 +49,20 @@ without-marks-reads {n} {text} g =
     }
 
 -- and texts that are the same except for marks read, where both do, as one plan
+-- a theorem of annotations
 pub same-except-marks : {n : ℕ} {text text₂ : List ℕ} {p q : Bare} → Reads n text p → Reads n text₂ q
     → without-marks OUTSIDE text ≡ without-marks OUTSIDE text₂ → p ≡ q
 same-except-marks {n} {p = p} g h e = reads-one (subst (λ t. Reads n t p) e (without-marks-reads g)) (without-marks-reads h)
 
 -- so every service answers and leaves the same
+-- a theorem of annotations
 pub read-without-marks : {text out : List ℕ} {r s : ReadAnswer} {a b : List ℕ} {p : Bare} → ReadsOut text out r a → ReadsOut (without-marks OUTSIDE text) out s b
     → Reads cellLimit text p → (s ≡ r) × (b ≡ a)
 read-without-marks {text} {out} {s = s} {b = b} call bare g =
     wrote-once read-family
     (subst (λ o. Wrote read-family o out s b) (reads-without-marks standard standard-roomy text (g .accepted)) (bare .wrote)) (call .wrote)
 
+-- a theorem of annotations
 pub run-without-marks : {text : List ℕ} {quota : ℕ} {memory memory₂ out : List ℕ} {r s : RunAnswer} {memory′ memory₂′ a b : List ℕ} {p : Bare}
     → Runs text quota memory out r memory′ a → Runs (without-marks OUTSIDE text) quota memory₂ out s memory₂′ b → lent memory₂ ≡ lent memory
     → Reads (lent memory) text p → (s ≡ r) × (b ≡ a)

@@ -1,5 +1,6 @@
 -- Demand 1, sentence by sentence: every call is answered, bad text is refused by the table, and what a refusal leaves.
 -- The statements are about an answer's five numbers and what the call left, for all inputs, and stand in the order of the sentences.
+-- Every public law here is a theorem of the demands.
 use Prim.Native.Nat.{ℕ, _≤_, _<_}
 use mathlib.Core.Path.{_≡_, refl, ap, subst}
 use mathlib.Core.Logic.{_↔_, _≢_, _⊎_, inl, inr}

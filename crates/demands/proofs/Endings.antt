@@ -1,5 +1,6 @@
 -- Demand 2, sentence by sentence. The reported steps are rewrites in the fixed order. An unrefused run's plan is what they make of the plan
 -- that its text reads as. Every statement is about the run's numbers, its texts and that plan.
+-- Every public law here is a theorem of the demands.
 use Prim.Native.Nat.{ℕ, _≤_}
 use mathlib.Core.Path.{_≡_, refl, ap, sym, subst, _∙_}
 use mathlib.Core.Logic.{_↔_}

@@ -1,4 +1,5 @@
 -- Demand 3, sentence by sentence: a plan that is DONE stays so with more of everything, and a run cut into slots ends as the run.
+-- Every public law here is a theorem of the demands.
 use Prim.Native.Nat.{ℕ, _+_, _*_, _≤_}
 use mathlib.Core.Path.{_≡_, refl, ap, sym, subst, _∙_}
 use mathlib.Core.List.{List, [], _∷_}

@@ -70,10 +70,12 @@ same-run-refusal (Refused y) x h =
     ap Refused (sym (with-its-own y) ∙ ap (λ (v : Numbers). refusal-with (v .number) (v .place)) h ∙ with-its-own x)
 
 -- "Number 14 is never given again"
+-- a theorem of tokens' faults
 pub run-fourteen-never-given : (r : RunAnswer) → run-numbers r .number ≢ 14
 run-fourteen-never-given (Ran e steps c l) h = omega (arith, ending-at-most e)
 run-fourteen-never-given (Refused x) h = run-refusal-number-is x .not-14 h
 
+-- a theorem of tokens' faults
 pub read-fourteen-never-given : (r : ReadAnswer) → read-numbers r .number ≢ 14
 read-fourteen-never-given (Read c l) h = omega arith
 read-fourteen-never-given (RefusedText x) h = read-refusal-number-is x .not-14 h

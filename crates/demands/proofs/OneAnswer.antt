@@ -1,5 +1,6 @@
 -- No second answer: two calls of a service with the same inputs, each as the contract says, answer the same five numbers and
 -- leave the same, byte for byte and number for number. There is no exception.
+-- Every public law here is a theorem of the demands.
 use Prim.Native.Nat.{ℕ, zero, suc, _<_}
 use mathlib.Core.Path.{_≡_, refl, ap, sym, subst, _∙_}
 use mathlib.Core.Bool.{Bool, true, false}

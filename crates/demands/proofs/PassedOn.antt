@@ -58,6 +58,7 @@ pub text-fault-told : {text out : List ℕ} {r : ReadAnswer} {out′ : List ℕ}
     → Unreadable standard cellLimit text (Text f) ↔ (read-numbers r ≡ fault-numbers f)
 text-fault-told call f = refused-by-its-text call (Text f)
 
+-- a theorem of tokens' faults
 pub run-passes-on : {text : List ℕ} {quota : ℕ} {memory out out₂ : List ℕ} {c : ReadAnswer} {r : RunAnswer} {memory′ out′ out₂′ : List ℕ}
     → ReadsOut text out₂ c out₂′ → Runs text quota memory out r memory′ out′ → lent memory ≤ cellLimit
     → (f : TextFault) → (read-numbers c ≡ fault-numbers f) ↔ (run-numbers r ≡ fault-numbers f)

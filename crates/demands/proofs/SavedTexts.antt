@@ -1,5 +1,6 @@
 -- "A printed plan is at most 64 times its cells, so at most 262,144 bytes: a saved text is never TOOLONG. With the same N it is never
 -- OVERFULL." Document 01, about the text that an unrefused RUN saved, given to a service again.
+-- Every public law here is a theorem of the demands.
 use Prim.Native.Nat.{ℕ, _*_, _≤_}
 use mathlib.Core.Path.{_≡_, ap}
 use mathlib.Core.Logic.{_≢_}

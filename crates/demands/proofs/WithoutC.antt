@@ -1,5 +1,6 @@
 -- "An unrefused run of a plan without operator c is never FULL, and is DONE where the quota is at least the plan's cells, since every
 -- other rewrite makes it smaller." Document 01, about RUN.
+-- Every public law here is a theorem of the demands.
 use Prim.Native.Nat.{ℕ, _≤_}
 use mathlib.Core.Path.{_≡_, ap, sym, subst, _∙_}
 use mathlib.Core.Logic.{_≢_}

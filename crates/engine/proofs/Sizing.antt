@@ -18,7 +18,7 @@ use Rattle.memory.specs.Held.{BlockIn, HeldIn}
 use Rattle.memory.specs.declared.Held.{Held}
 use Rattle.blocks.specs.Blocks.{HasBlock}
 use Rattle.hunt.specs.Hunting.{RuleAt}
-use Rattle.hunt.specs.declared.Spot.{Spot}
+use Rattle.ready.specs.declared.Spot.{Spot}
 use Rattle.hunt.proofs.Window.{stands-rule}
 use Rattle.rewrites.proofs.Gaps.{gap-block}
 use Rattle.engine.specs.Running.{Countable, Spotted}

@@ -16,9 +16,9 @@ use Rattle.rules.proofs.Runs.{ask-go}
 use Rattle.memory.specs.Held.{HeldIn}
 use Rattle.memory.specs.declared.Held.{Held}
 use Rattle.hunt.specs.Hunting.{Finds, Huntable}
-use Rattle.hunt.specs.declared.Hunted.{Hunted}
-use Rattle.hunt.specs.declared.Hunted.the-variants.{Nothing, Ready}
-use Rattle.hunt.specs.declared.Spot.{Spot}
+use Rattle.ready.specs.declared.Hunted.{Hunted}
+use Rattle.ready.specs.declared.Hunted.the-variants.{Nothing, Ready}
+use Rattle.ready.specs.declared.Spot.{Spot}
 use Rattle.rewrites.specs.Rules.{Rewritable, RewriteMade, Rewrites}
 use Rattle.engine.specs.Running.{Countable, Runnable, Sized, Spotted, TurnMade}
 use Rattle.engine.specs.declared.Turn.the-variants.{Stopped, Went}

@@ -12,7 +12,7 @@ use Rattle.memory.specs.Held.{HeldIn, HeldAlike}
 use Rattle.memory.specs.Model.{Lent}
 use Rattle.memory.specs.declared.Held.{Held}
 use Rattle.hunt.specs.Hunting.{Stands, cell-of}
-use Rattle.hunt.specs.declared.Spot.{Spot}
+use Rattle.ready.specs.declared.Spot.{Spot}
 use Rattle.engine.specs.declared.Ended.{Ended}
 use Rattle.engine.specs.declared.Turn.{Turn}
 use Rattle.engine.specs.declared.Turn.the-variants.{Stopped, Went}

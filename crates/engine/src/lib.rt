@@ -7,11 +7,11 @@ ghost use Rattle.plan.specs.Plan.{Plan, cells};
 ghost use Rattle.memory.specs.Model.{Aside};
 ghost use Rattle.engine.specs.Running.{Countable, RunMade, Runnable, SameCells, Spotted, TurnMade};
 use blocks::block_cells;
-use hunt::Hunted;
-use hunt::Spot;
 use hunt::hunt;
 use memory::Held;
 use plan::Operator;
+use ready::Hunted;
+use ready::Spot;
 use rewrites::rewrite;
 use rules::Ending;
 

@@ -17,15 +17,16 @@ use Rattle.memory.specs.Model.{Lent}
 use Rattle.memory.specs.declared.Held.{Held}
 use Rattle.memory.proofs.Lists.{linked-split}
 use Rattle.blocks.proofs.Ways.{ahead, Way, WayAhead, turn}
-use Rattle.hunt.specs.Hunting.{SequenceAt, Scannable, Scanned, Finds, Huntable, cell-of, block-opens}
-use Rattle.hunt.specs.declared.Spot.{Spot}
-use Rattle.hunt.specs.declared.Hunted.{Hunted}
-use Rattle.hunt.specs.declared.Hunted.the-variants.{Nothing, Ready}
+use Rattle.hunt.specs.Hunting.{SequenceAt, Scannable, Scanned, Finds, Huntable, cell-of}
+use Rattle.ready.specs.Ready.{block-opens}
+use Rattle.ready.specs.declared.Spot.{Spot}
+use Rattle.ready.specs.declared.Hunted.{Hunted}
+use Rattle.ready.specs.declared.Hunted.the-variants.{Nothing, Ready}
 use Rattle.hunt.proofs.WaysThrough.{way-whole, way-at}
 use Rattle.hunt.proofs.Frames.{left, chain-plug, inside-plug}
 use Rattle.hunt.proofs.OnePlan.{one-held}
 use Rattle.hunt.proofs.Whereabouts.{Whereabouts, onward, Opening, at-opening, passed, at-end, stand-opening, stand-passing, pass-opening}
-use Rattle.hunt.proofs.Tests.{outermost-datum}
+use Rattle.ready.proofs.Tests.{outermost-datum}
 
 pub record Walking (text m : List ℕ) (h : Held) (stop port : ℕ) : Type 0 where
   pub lent : Lent (h .outer .0) m

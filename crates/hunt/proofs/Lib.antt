@@ -2,7 +2,6 @@ pub mod Frames
 pub mod HuntWalk
 pub mod OnePlan
 pub mod Scanning
-pub mod Tests
 pub mod WaysThrough
 pub mod Whereabouts
 pub mod Window

@@ -20,10 +20,11 @@ use Rattle.memory.specs.declared.Kind.the-variants.{Operator as OPERATOR, Token
 use Rattle.memory.proofs.Whole.{number-whole}
 use Rattle.memory.proofs.Numbered.{kind-told}
 use Rattle.blocks.proofs.Ways.{ahead, way-ahead, Way}
-use Rattle.hunt.specs.Hunting.{SequenceAt, Scannable, Scanned, end-port, ready-at}
-use Rattle.hunt.specs.declared.Spot.{Spot}
-use Rattle.hunt.specs.declared.Hunted.{Hunted}
-use Rattle.hunt.specs.declared.Hunted.the-variants.{Nothing, Ready}
+use Rattle.hunt.specs.Hunting.{SequenceAt, Scannable, Scanned}
+use Rattle.ready.specs.Ready.{end-port, ready-at}
+use Rattle.ready.specs.declared.Spot.{Spot}
+use Rattle.ready.specs.declared.Hunted.{Hunted}
+use Rattle.ready.specs.declared.Hunted.the-variants.{Nothing, Ready}
 use Rattle.hunt.proofs.WaysThrough.{way-sequence, way-skip}
 use Rattle.hunt.proofs.OnePlan.{one-inside}
 use Rattle.hunt.proofs.Window.{Seen, Tested, seen-token, seen-block, tested-operator}

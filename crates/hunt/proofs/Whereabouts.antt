@@ -19,7 +19,8 @@ use Rattle.memory.proofs.Lists.{below-split}
 use Rattle.memory.specs.Numbered.{kind-of}
 use Rattle.memory.specs.declared.Kind.the-variants.{Operator as OPERATOR}
 use Rattle.memory.proofs.Numbered.{kind-told}
-use Rattle.hunt.specs.Hunting.{cell-of, is-block, block-opens}
+use Rattle.hunt.specs.Hunting.{cell-of}
+use Rattle.ready.specs.Ready.{is-block, block-opens}
 use Rattle.hunt.proofs.Frames.{right, says-split, says-around, block-low}
 
 -- the ports from those of the items z on, where the items z end a sequence in the frame

@@ -17,11 +17,12 @@ use Rattle.memory.specs.Memory.{start, close, ports, last-of}
 use Rattle.memory.specs.declared.Kind.the-variants.{Operator as OPERATOR}
 use Rattle.memory.proofs.Lists.{last-append}
 use Rattle.memory.proofs.Ports.{ports-then}
-use Rattle.hunt.specs.Hunting.{RuleAt, Scanned, Stands, port-behind, ready-at, spot-at}
-use Rattle.hunt.specs.declared.Spot.{Spot}
-use Rattle.hunt.specs.declared.Hunted.{Hunted}
-use Rattle.hunt.specs.declared.Hunted.the-variants.{Nothing, Ready}
-use Rattle.hunt.proofs.Tests.{two-there, second-missing, one-there, none-there}
+use Rattle.hunt.specs.Hunting.{RuleAt, Scanned, Stands, port-behind}
+use Rattle.ready.specs.Ready.{ready-at, spot-at}
+use Rattle.ready.specs.declared.Spot.{Spot}
+use Rattle.ready.specs.declared.Hunted.{Hunted}
+use Rattle.ready.specs.declared.Hunted.the-variants.{Nothing, Ready}
+use Rattle.ready.proofs.Tests.{two-there, second-missing, one-there, none-there}
 
 -- the last three ports: a block's close, which is odd, for each block at hand, and before those the port behind which they stand
 abbrev pub Seen : (s : ℕ) → {q y : Plan ℕ} → Window q y → (last second third : ℕ) → Type 0

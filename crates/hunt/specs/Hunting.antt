@@ -1,27 +1,21 @@
 -- What a hunt for a ready operator finds in a plan in the memory: where the operator stands, and which plan its rewrite gives. A scan
 -- answers for one sequence (`Scanned`), a hunt for a plan (`Finds`). What they answer is what document 01's order chooses: `outer` of a
 -- sequence, `next` of a plan. Last come the tests that the code makes at a port.
-use Prim.Native.Nat.{ℕ, _/_, _%_, _≤_}
+use Prim.Native.Nat.{ℕ, _≤_}
 use mathlib.Core.Path.{_≡_}
-use mathlib.Core.Bool.{Bool, true, false, cond}
 use mathlib.Core.Option.{none, some}
 use mathlib.Core.List.{List, [], _∷_, _++_}
-use lib.Dec.{eqb}
 use Rattle.rules.specs.Frames.{Frame, top, within, plug, Ahead, Rule}
 use Rattle.plan.specs.Plan.{Plan, labels}
 use Rattle.plan.specs.declared.Operator.{Operator}
-use Rattle.rules.specs.Leftmost.{takes}
 use Rattle.rules.specs.Rewriting.{leftmost, next}
 use Rattle.memory.specs.Held.{HeldIn, held-numbers}
-use Rattle.memory.specs.Memory.{start, close, datum, ports, Linked, Says, Below, Distinct, last-of}
+use Rattle.memory.specs.Memory.{start, close, ports, Linked, Says, Below, Distinct, last-of}
 use Rattle.memory.specs.Model.{Lent}
-use Rattle.memory.specs.Numbered.{kind-of}
 use Rattle.memory.specs.declared.Held.{Held}
-use Rattle.memory.specs.declared.Kind.{Kind}
-use Rattle.memory.specs.declared.Kind.the-variants.{Operator as OPERATOR, Token as TOKEN, Block as BLOCK}
-use Rattle.hunt.specs.declared.Spot.{Spot}
-use Rattle.hunt.specs.declared.Hunted.{Hunted}
-use Rattle.hunt.specs.declared.Hunted.the-variants.{Nothing, Ready}
+use Rattle.ready.specs.declared.Spot.{Spot}
+use Rattle.ready.specs.declared.Hunted.{Hunted}
+use Rattle.ready.specs.declared.Hunted.the-variants.{Nothing, Ready}
 
 -- the cell that has the sequence inside it: cell number n for the outermost one
 abbrev pub cell-of : (n : ℕ) → Frame ℕ → ℕ
@@ -81,36 +75,3 @@ pub record Huntable (text m : List ℕ) (h : Held) (from : ℕ) : Type 0 where
   pub plan : Plan ℕ
   pub held : HeldIn text m h plan
   pub awaits : Awaits (h .outer .0) plan from
-
-abbrev pub is-block : Kind → Bool
-is-block (OPERATOR o) = false
-is-block TOKEN = false
-is-block BLOCK = true
-
--- The last port of the item that starts at a port. It links to what comes behind the item. A block's last port is its close.
-abbrev pub end-port : Kind → (at : ℕ) → ℕ
-end-port kind at = cond (is-block kind) (close (at / 2)) at
-
--- a block opens at the port: the port is no close, and its datum says a block; the outermost start opens one too
-unfoldable pub block-opens : List ℕ → (port : ℕ) → Bool
-block-opens w port = cond (eqb (port % 2) 1) false (is-block (kind-of (datum w port)))
-
--- the operator at the port `at`, behind blocks that close at the last two ports
-abbrev pub spot-at : Operator → (at last second before : ℕ) → Spot
-spot-at o at last second before = record {
-  which = o;
-  before = record { 0 = before };
-  older = record { 0 = second / 2 };
-  newer = record { 0 = last / 2 };
-  operator = record { 0 = at / 2 };
-}
-
--- Whether the item at the port `at` is a ready operator. The ports `last`, `second` and `third` are the last ports of the three items
--- before it, the nearest first. An odd port is a block's close, so its item is a block.
-abbrev pub ready-at : Kind → (at last second third : ℕ) → Hunted
-ready-at (OPERATOR o) at last second third =
-    cond (eqb (last % 2) 1)
-    (cond (eqb (takes o) 2) (cond (eqb (second % 2) 1) (Ready (spot-at o at last second third)) Nothing) (Ready (spot-at o at last second second)))
-    Nothing
-ready-at TOKEN at last second third = Nothing
-ready-at BLOCK at last second third = Nothing

@@ -23,6 +23,7 @@ use Rattle.numbers.specs.declared.Numbers.{Numbers}
 use Rattle.numbers.specs.Numbers.{fault-number, fault-place, read-numbers, read-refusal-numbers, token-fault-number, unread-numbers}
 
 -- a token's faults have the numbers 21 to 25
+-- a theorem of tokens' faults
 pub token-fault-range : (f : TokenFault) → (21 ≤ token-fault-number f) × (token-fault-number f ≤ 25)
 token-fault-range Empty = omega arith
 token-fault-range Long = omega arith

@@ -86,6 +86,7 @@ module _ (lim : Limits) (text : List ℕ) where
           }
 
   -- "a text of at most 1,048,576 bytes that reads as a plan of at most 4,096 cells"
+  -- a theorem of acceptable texts
   pub acceptable-exactly-when : (acceptable lim text ≡ true)
       ↔ ((p : Plan ℕ) × (length text ≤ lim .text) × (read-from (lim .token) 0 0 outermost end text ≡ PLAN p) × (cells p ≤ lim .cells))
   acceptable-exactly-when = (

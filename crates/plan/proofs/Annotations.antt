@@ -67,16 +67,19 @@ module _ {L : Type 0} (limit : ℕ) where
       (λ e. absurd (omega arith), clear-print b (h .0) (close-bracket ∷ (print p ++ us)) later)
 
   -- no printed text holds an annotation
+  -- a theorem of annotations
   pub print-no-annotation : (p : Plan L) → Allowed limit p → HoldsAnnotation (print p) → ⊥
   print-no-annotation p h = clear-nowhere (print p) (rw append-nil at (clear-print p h [] tt))
 
 -- a text that is accepted reads without its marks as the same plan
+-- a theorem of annotations
 pub accept-without-marks : (lim : Limits) → Roomy lim → (n : ℕ) → n ≤ lim .cells → (text : List ℕ) {p : Plan ℕ} → accept lim n text ≡ ACCEPTED p
     → accept lim n (without-marks OUTSIDE text) ≡ ACCEPTED (placed 0 p)
 accept-without-marks lim roomy n lent text {p} h =
     let good = read-accepted (lim .token) n text (accepted-text lim n text h .reads) in
     ap (accept lim n) (sym (good .printed)) ∙ print-accepted lim roomy n lent p (good .fine) (good .fits)
 
+-- a theorem of annotations
 pub reads-without-marks : (lim : Limits) → Roomy lim → (text : List ℕ) {p : Plan ℕ} → accept lim (lim .cells) text ≡ ACCEPTED p
     → read-outcome lim (without-marks OUTSIDE text) ≡ read-outcome lim text
 unfolding read-outcome as-read

@@ -105,6 +105,7 @@ read-accepted limit n text {p} e =
     }
 
 -- The printed text of a plan has no SP, LF or annotation outside tokens: taking them out takes out nothing.
+-- a theorem of annotations
 pub print-no-marks : {L : Type 0} (limit : ℕ) (p : Plan L) → Allowed limit p → without-marks OUTSIDE (print p) ≡ print p
 print-no-marks limit p h =
     sym (read-accepted limit (cells p) (print p) (read-print limit (cells p) p h (omega arith)) .printed) ∙ print-placed 0 p

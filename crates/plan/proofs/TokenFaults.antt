@@ -61,6 +61,7 @@ character-at-before {bs} (behind {i} s e n) k l =
       | no p ↦ character-at-before s k (omega arith)
     ]
 
+-- a theorem of tokens' faults
 pub stands-before : {limit : ℕ} {bs : List ℕ} {j : ℕ} {f : TokenFault} → FaultAt limit bs j f → NoneBefore bs j
 stands-before (nothing-between e) = λ i l. absurd (omega arith)
 stands-before (token-too-long at l n) = λ i h. n i (omega arith)
@@ -303,6 +304,7 @@ pub nothing-first : (limit : ℕ) (rest : List ℕ) → FirstFault limit (close-
 nothing-first limit rest =
     next-first {limit = limit} none-yet (close-brace ∷ rest) (omega arith) (omega arith) (λ far. refl) (nothing-between refl)
 
+-- a theorem of tokens' faults
 pub first-unique : {limit i j : ℕ} {bs : List ℕ} {f g : TokenFault} → FirstFault limit bs i f → FirstFault limit bs j g → (i ≡ j) × (f ≡ g)
 first-unique {limit} {i} {j} {bs} {f} {g} a b = go (a .before-others (b .stands)) (b .before-others (a .stands))
   where
@@ -465,17 +467,20 @@ meets limit zero u v short = meets-by u v (λ u′ v′ shorter. absurd (omega a
 meets limit (suc k) u v short = meets-by u v (λ u′ v′ shorter. meets limit k u′ v′ (omega arith))
 
 -- What the reading definition gives for bytes that are no allowed token's is the first fault of the table, and nothing else is.
+-- a theorem of tokens' faults
 pub first-met : (limit : ℕ) (bs : List ℕ) → token-text limit bs ≡ none
     → FirstFault limit bs (first-fault 0 (limit - 2) 0 bs .byte) (first-fault 0 (limit - 2) 0 bs .fault)
 first-met limit bs bad =
     rw (sub-zero) at (meets limit (length bs) [] bs (omega arith) none-yet (omega arith) bad)
 
+-- a theorem of tokens' faults
 pub met-first : {limit i : ℕ} {bs : List ℕ} {f : TokenFault} → FirstFault limit bs i f → first-fault 0 (limit - 2) 0 bs ≡ met i f
 met-first {limit} {i} {bs} a =
     let same = first-unique (first-met limit bs (fault-no-token (a .stands))) a in
     ap₂ met (same .0) (same .1)
 
 -- a `{` opens an allowed token exactly when no fault stands anywhere behind it
+-- a theorem of tokens' faults
 pub allowed-iff-faultless : (limit : ℕ) (bs : List ℕ) → ((t : List ℕ) × Found limit bs t) ↔ ((i : ℕ) (f : TokenFault) → FaultAt limit bs i f → ⊥)
 allowed-iff-faultless limit bs = (λ found i f a. found-faultless (found .1) a, λ none-stands. go none-stands (token-text limit bs) refl (token-text-finds limit bs))
   where

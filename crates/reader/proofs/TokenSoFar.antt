@@ -34,11 +34,12 @@ use Rattle.kinds.proofs.Tests.{never}
 use Rattle.plan.proofs.Tokens.{annotation-of}
 use Rattle.plan.proofs.Utf8.{character-width}
 use Rattle.text.specs.TokenEnds.{TokenEnds}
-use Rattle.reader.specs.Counting.{closed, token-faulty, in-character, in-token, kept-or-passed, stepped, surveyed}
+use Rattle.reader.specs.Counting.{closed, kept-or-passed, stepped, surveyed}
+use Rattle.tokens.specs.InToken.{token-faulty, in-character, in-token}
 use Rattle.reader.specs.declared.Count.{Count}
-use Rattle.reader.specs.declared.InToken.{InToken}
-use Rattle.reader.specs.declared.InToken.the-variants.{Further, Ends}
-use Rattle.reader.specs.declared.TokenRead.the-variants.{Whole as WholeToken, Faulty}
+use Rattle.tokens.specs.declared.InToken.{InToken}
+use Rattle.tokens.specs.declared.InToken.the-variants.{Further, Ends}
+use Rattle.tokens.specs.declared.TokenRead.the-variants.{Whole as WholeToken, Faulty}
 use Rattle.reader.specs.declared.ByteStep.the-variants.{On, Token, Stop}
 use Rattle.reader.specs.declared.Surveyed.the-variants.{Faulty as FaultyText}
 use Rattle.reader.proofs.SurveySoFar.{SurveySoFar, item-more, mark-more, refused-here, token-is-not-on, token-is-not-stop}

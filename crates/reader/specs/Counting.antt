@@ -2,24 +2,15 @@
 -- proofs/ tie these meanings to reading. Last comes what the whole survey answers, by what reading says (`surveyed`).
 use Prim.Native.Nat.{ℕ, _+_, _-_, _≤_}
 use mathlib.Core.Bool.{Bool, cond}
-use mathlib.Core.List.{List}
-use lib.Dec.{leb, ltb, eqb}
-use lib.ListN.{length, getD, drop}
+use lib.Dec.{ltb, eqb}
+use lib.ListN.{length}
 use Rattle.kinds.specs.Limits.{textLimit}
-use Rattle.plan.specs.Plan.{cells, print, open-brace, close-brace}
-use Rattle.plan.specs.Token.{character, may-hold}
+use Rattle.plan.specs.Plan.{cells, print}
 use Rattle.plan.specs.Reading.{FAULT, PLAN, Reading, place, place-of-item}
 use Rattle.plan.specs.declared.Class.{Class}
 use Rattle.plan.specs.declared.Class.the-variants.{Operator as OPERATOR, Open as OPEN, Close as CLOSE, Brace as BRACE, Blank as BLANK, Bad as BAD}
-use Rattle.plan.specs.declared.Character.{Character}
-use Rattle.plan.specs.declared.Character.the-variants.{Whole, Malformed}
 use Rattle.plan.specs.declared.TextFault.the-variants.{BadByte, Unmatched, Unclosed}
-use Rattle.plan.specs.declared.TokenFault.{TokenFault}
-use Rattle.plan.specs.declared.TokenFault.the-variants.{Empty, Long, BadUtf8, Forbidden, InnerBrace}
 use Rattle.reader.specs.declared.Count.{Count}
-use Rattle.reader.specs.declared.InToken.{InToken}
-use Rattle.reader.specs.declared.InToken.the-variants.{Further, Ends}
-use Rattle.reader.specs.declared.TokenRead.the-variants.{Whole as WholeToken, Faulty}
 use Rattle.reader.specs.declared.ByteStep.{ByteStep}
 use Rattle.reader.specs.declared.ByteStep.the-variants.{On, Token, Stop}
 use Rattle.reader.specs.declared.Surveyed.{Surveyed}
@@ -65,26 +56,6 @@ stepped n BAD at room = Stop (BadByte (place at))
 -- a token that was read is an item, unless it is a mark
 abbrev pub kept-or-passed : (is-mark : Bool) → Count → (at room bytes : ℕ) → Count
 kept-or-passed is-mark n at room bytes = cond is-mark n (one-item n at room bytes)
-
--- a token's fault ends its reading, at the fault's own place
-abbrev pub token-faulty : TokenFault → (at : ℕ) → InToken
-token-faulty f at = Ends (Faulty f (place at))
-
--- A character that begins before `last`, the last byte that the token may have, which has to be its `}`. The character has a fault of its
--- own, or it reaches that byte, or the token goes on behind it.
-unfoldable pub in-character : (last at : ℕ) → Character → InToken
-in-character last at Malformed = token-faulty BadUtf8 at
-in-character last at (Whole v width) =
-    cond (eqb v open-brace) (token-faulty InnerBrace at)
-    (cond (may-hold v) (cond (leb last (at + (width - 1))) (token-faulty Long last) (Further width)) (token-faulty Forbidden at))
-
--- the next byte of the token whose `{` is at `start`
-unfoldable pub in-token : (limit start at : ℕ) → List ℕ → InToken
-in-token limit start at text =
-    let last = start + (limit - 1) in
-    cond (leb (length text) at) (token-faulty Long (length text))
-    (cond (eqb (getD text at 0) close-brace) (cond (eqb at (start + 1)) (token-faulty Empty at) (Ends WholeToken))
-    (cond (eqb at last) (token-faulty Long at) (in-character last at (character (drop at text)))))
 
 -- the end of the text
 unfoldable pub survey-ended : Count → (at : ℕ) → Surveyed

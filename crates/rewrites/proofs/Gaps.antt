@@ -16,7 +16,7 @@ use Rattle.memory.specs.Held.{BlockIn}
 use Rattle.hunt.specs.Hunting.{cell-of}
 use Rattle.hunt.proofs.Frames.{chain-plug, left, right, says-around, says-plug, says-split}
 use Rattle.rewrites.specs.Rules.{at-end}
-use Rattle.rewrites.proofs.Splicing.{first-split, last-split}
+use Rattle.splices.proofs.Splicing.{first-split, last-split}
 
 -- the ports of a whole plan, from the outermost start to the end mark
 abbrev pub chain-of : (n : ℕ) → Plan ℕ → List ℕ

@@ -1,7 +1,5 @@
-pub mod Chained
 pub mod Gaps
 pub mod Moving
 pub mod Rewriting
 pub mod Ruling
-pub mod Splicing
 pub mod Turns

@@ -20,9 +20,9 @@ use Rattle.memory.proofs.Ports.{below-ports}
 use Rattle.hunt.specs.Hunting.{cell-of}
 use Rattle.hunt.proofs.Frames.{cell-low, says-around, says-split}
 use Rattle.rewrites.specs.Rules.{at-end}
-use Rattle.rewrites.specs.Splices.{cut, put-in, released, unwrapped}
+use Rattle.splices.specs.Splices.{cut, put-in, released, unwrapped}
 use Rattle.rewrites.proofs.Gaps.{chain-absent, chain-distinct, chain-of, Gap, gap, gap-replaced, gap-says}
-use Rattle.rewrites.proofs.Splicing.{cut-linked, cut-run, first-split, last-split, left-distinct, put-in-linked}
+use Rattle.splices.proofs.Splicing.{cut-linked, cut-run, first-split, last-split, left-distinct, put-in-linked}
 
 -- the cells of the plan t say it, and `more` cells are in use beside it
 pub record Said (text : List ℕ) (n : ℕ) (w : List ℕ) (free : ℕ) (t : Plan ℕ) (more : List ℕ) : Type 0 where

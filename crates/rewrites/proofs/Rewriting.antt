@@ -15,11 +15,11 @@ use Rattle.memory.specs.Model.{Lent}
 use Rattle.memory.specs.declared.Held.{Held}
 use Rattle.memory.proofs.Lists.{below-split}
 use Rattle.hunt.specs.Hunting.{RuleAt}
-use Rattle.hunt.specs.declared.Spot.{Spot}
+use Rattle.ready.specs.declared.Spot.{Spot}
 use Rattle.hunt.proofs.Window.{stands-rule}
 use Rattle.rewrites.specs.Rules.{DropBlock, OneBlock, Rewrites, RuleA, RuleB, RuleC, RuleD, TwoBlocks, at-end}
-use Rattle.rewrites.specs.Splices.{OperatorOut}
-use Rattle.rewrites.proofs.Chained.{held-after, same-cells, spliced-lent}
+use Rattle.splices.specs.Splices.{OperatorOut}
+use Rattle.splices.proofs.Chained.{held-after, same-cells, spliced-lent}
 use Rattle.rewrites.proofs.Gaps.{gap}
 use Rattle.rewrites.proofs.Moving.{held-said, said-below}
 use Rattle.rewrites.proofs.Ruling.{block-then, operator-out}

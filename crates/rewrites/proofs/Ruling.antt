@@ -16,7 +16,7 @@ use Rattle.blocks.proofs.Freed.{freed-holds}
 use Rattle.copier.specs.Copying.{CopyHeld}
 use Rattle.hunt.proofs.Window.{ends-in-block}
 use Rattle.rewrites.specs.Rules.{at-end}
-use Rattle.rewrites.specs.Splices.{cut, moved, put-in, released, unwrapped}
+use Rattle.splices.specs.Splices.{cut, moved, put-in, released, unwrapped}
 use Rattle.rewrites.proofs.Gaps.{gap-block}
 use Rattle.rewrites.proofs.Moving.{HoldsBeside, open-up, put-back, remove, take-out}
 

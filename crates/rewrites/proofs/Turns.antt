@@ -21,8 +21,8 @@ use Rattle.blocks.proofs.LinkedBlock.{block-alone}
 use Rattle.copier.specs.Copying.{Copies, Copyable, CopyMade}
 use Rattle.copier.specs.declared.Copied.{Copied}
 use Rattle.rewrites.specs.Rules.{DropBlock, OneBlock, RuleA, RuleB, RuleC, RuleD, TwoBlocks, at-end}
-use Rattle.rewrites.specs.Splices.{BlockOpened, Spliced, cut, moved, put-in, unwrapped}
-use Rattle.rewrites.proofs.Chained.{held-after, same-cells, splice-two, spliced-lent}
+use Rattle.splices.specs.Splices.{BlockOpened, Spliced, cut, moved, put-in, unwrapped}
+use Rattle.splices.proofs.Chained.{held-after, same-cells, splice-two, spliced-lent}
 use Rattle.rewrites.proofs.Moving.{end-low, held-said}
 use Rattle.rewrites.proofs.Ruling.{applied, block-then, doubled, dropped, enclosed, out-alone, there}
 

@@ -9,7 +9,7 @@ use Rattle.memory.specs.Held.{HeldIn, HeldAlike}
 use Rattle.memory.specs.Model.{Lent}
 use Rattle.memory.specs.declared.Held.{Held}
 use Rattle.hunt.specs.Hunting.{Stands, cell-of, port-behind}
-use Rattle.hunt.specs.declared.Spot.{Spot}
+use Rattle.ready.specs.declared.Spot.{Spot}
 
 -- the port that links to what stands behind X
 abbrev pub at-end : (n : ℕ) → Frame ℕ → Plan ℕ → ℕ

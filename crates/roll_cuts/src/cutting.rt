@@ -1,153 +1,197 @@
-// Reads every front of a roll, and compares it with the entries of the whole roll that end in it.
-use crate::building::FIRST_TEXT;
-use crate::reading::READ;
-use crate::reading::counted;
-use crate::reading::more;
-use crate::reading::number_at;
-use crate::reading::read_front;
-use roll_rules::EntryAnswer;
+// The fronts of a roll: each is read, gone on with, and read again.
+ghost use Prim.Native.Nat.{_<_, _≤_};
+ghost use lib.ListN.{length};
+use crate::entering::LISTED;
+use crate::entering::ROLL;
+use crate::entering::enter;
+use crate::entering::start_of;
+use crate::entering::with_line;
+use bytes::scan::find;
 use roll_rules::RollNumbers;
+use std::num::wrapping_add_u32;
+use telling::say;
+use telling::say_count;
 
-// How many fronts were read and refused, and in how many of those read something is wrong.
-pub struct Cuts {
-    pub read: u32,
-    pub refused: u32,
-    pub entries_wrong: u32,
-    pub places_wrong: u32,
-    pub ends_wrong: u32,
-    pub filed_wrong: u32,
-    pub done_wrong: u32,
-}
+// More than the roll has entries.
+pub const LIST: usize = 160;
 
-// What a front is to read as: its whole entries and the end of the last, the jobs filed and the jobs done.
-struct FrontReads {
-    entries: u32,
-    end: u32,
-    filed: u32,
-    done: u32,
-}
+// What is wrong, as it is pointed out.
+pub const RIGHT: u32 = 0;
 
-// How long the text of the entry at a place is; a DONE has none.
-fn text_bytes(roll: &[u8], place: u32) -> u32 {
-    match roll_read::entry(roll, place as usize) {
-        EntryAnswer::TooLong => 1,
-        EntryAnswer::NoEntry => 1,
-        EntryAnswer::Found {
-            job,
-            job_bytes,
-            text,
-            text_bytes,
-        } => text_bytes,
+pub const ADDED_WRONG: u32 = 1;
+
+const READ_WRONG: u32 = 2;
+
+const NOT_TAKEN: u32 = 3;
+
+const CHANGED: u32 = 4;
+
+const READ_AGAIN_WRONG: u32 = 5;
+
+// The place just past the line that begins at a place.
+pub fn past_line(lines: &[u8], at: usize) -> usize
+    requires { ⌜ at < length (now lines) ⌝ }
+    ensures { λ r. ⌜ (at < r) × (r ≤ length (now (lines .entry))) ⌝ }
+{
+    let end = find(lines, at, lines.len(), b'\n');
+    if end < lines.len() {
+        return end + 1;
     }
+    end
 }
 
-// An entry that ends in the front is one of its whole entries.
-fn with_entry(front: FrontReads, text: u32, end: u32, bytes: u32) -> FrontReads {
-    if bytes < end {
-        return front;
-    }
-    FrontReads {
-        entries: more(front.entries),
-        end,
-        filed: counted(front.filed, text == FIRST_TEXT),
-        done: counted(front.done, text == 0),
-    }
-}
-
-// Where an entry of the whole roll ends: where the next one begins, and the last at the end of the roll.
-fn end_before(whole: RollNumbers, whole_list: &[u32], next: usize) -> u32 {
-    if next < whole.entries as usize {
-        return number_at(whole_list, next);
-    }
-    whole.place
-}
-
-// The first byte of a roll is before its entries; no bytes are a roll too.
-fn no_entries(bytes: u32) -> FrontReads {
-    FrontReads {
+// What no bytes are to read as.
+pub fn no_entries() -> RollNumbers {
+    RollNumbers {
+        number: LISTED,
         entries: 0,
-        end: counted(0, 0 < bytes),
         filed: 0,
         done: 0,
+        place: 0,
     }
 }
 
-// What the first bytes of a roll are to read as, by the list of the whole roll and its entries one by one.
-fn front_of(roll: &[u8], whole: RollNumbers, whole_list: &[u32], bytes: u32) -> FrontReads {
-    let mut front = no_entries(bytes);
-    let entries = whole.entries as usize;
-    let mut at = 0;
-    while at < entries {
-        let text = text_bytes(roll, number_at(whole_list, at));
-        at += 1;
-        front = with_entry(front, text, end_before(whole, whole_list, at), bytes);
-    }
-    front
+// Whether all five numbers are the same: only then has none a bit that the other lacks.
+pub fn same_numbers(one: RollNumbers, other: RollNumbers) -> bool {
+    (one.number ^ other.number)
+        | (one.entries ^ other.entries)
+        | (one.filed ^ other.filed)
+        | (one.done ^ other.done)
+        | (one.place ^ other.place)
+        == 0
 }
 
-// Whether two lists begin with the same numbers.
-fn begin_same(whole_list: &[u32], list: &[u32], count: usize) -> bool {
+// A number on a line of its own.
+pub fn tell(number: u32) {
+    say_count(number as u64);
+    say(b"\n");
+}
+
+// Points out what is wrong, and where; whether nothing is, as a count.
+pub fn right_or_told(wrong: u32, place: u32) -> u32 {
+    if wrong == RIGHT {
+        return 1;
+    }
+    say(b"fault and place:\n");
+    tell(wrong);
+    tell(place);
+    0
+}
+
+// Whether two lists begin with the same numbers: where they first differ, that is behind these.
+fn begin_same(places: &[u32; LIST], list: &[u32; LIST], count: usize) -> bool {
     let mut at = 0;
-    while at < count {
-        if number_at(whole_list, at) != number_at(list, at) {
-            return false;
+    while at < LIST {
+        if places[at] != list[at] {
+            return count <= at;
         }
         at += 1;
     }
     true
 }
 
-impl Cuts {
-    fn new() -> Self {
-        Self {
-            read: 0,
-            refused: 0,
-            entries_wrong: 0,
-            places_wrong: 0,
-            ends_wrong: 0,
-            filed_wrong: 0,
-            done_wrong: 0,
-        }
+// Reads the first bytes of a buffer as a roll.
+pub fn read_front(buffer: &[u8], bytes: u32, list: &mut [u32; LIST]) -> RollNumbers {
+    let end = bytes as usize;
+    if buffer.len() < end {
+        return no_entries();
     }
-
-    fn after(mut self, cut: RollNumbers, front: FrontReads, places_same: bool) -> Self {
-        if cut.number != READ {
-            self.refused = more(self.refused);
-            return self;
-        }
-        self.read = more(self.read);
-        self.entries_wrong = counted(self.entries_wrong, cut.entries != front.entries);
-        self.places_wrong = counted(self.places_wrong, !places_same);
-        self.ends_wrong = counted(self.ends_wrong, cut.place != front.end);
-        self.filed_wrong = counted(self.filed_wrong, cut.filed != front.filed);
-        self.done_wrong = counted(self.done_wrong, cut.done != front.done);
-        self
-    }
+    let answer = roll_read::read(&buffer[0..end], list);
+    answer.numbers()
 }
 
-// Reads one front.
-fn read_cut(
-    before: Cuts,
-    roll: &[u8],
-    whole: RollNumbers,
-    whole_list: &[u32],
-    list: &mut [u32],
+// Whether the first bytes of a buffer read as expected, with each entry at its place in the whole roll. No entry has the place 0, which
+// the list has first.
+fn reads_as(buffer: &[u8; ROLL], bytes: u32, places: &[u32; LIST], expected: RollNumbers) -> bool {
+    let mut list = [0u32; LIST];
+    let numbers = read_front(buffer, bytes, &mut list);
+    if !same_numbers(numbers, expected) {
+        return false;
+    }
+    begin_same(places, &list, expected.entries as usize)
+}
+
+// Whether all bytes before a place, and all from another on, are the same.
+fn kept(roll: &[u8; ROLL], other: &[u8; ROLL], start: usize, end: usize) -> bool {
+    let mut at = 0;
+    while at < ROLL {
+        if roll[at] != other[at] {
+            if at < start {
+                return false;
+            }
+            if end <= at {
+                return false;
+            }
+        }
+        at += 1;
+    }
+    true
+}
+
+// What is wrong with a front that reads as it should: with the entry of a line more, or when it is read again. Behind the front stands the
+// rest of the roll, which is not to be read.
+fn go_on(
+    roll: &[u8; ROLL],
+    places: &[u32; LIST],
+    line: &[u8],
+    now: RollNumbers,
     bytes: u32,
-) -> Cuts {
-    let cut = read_front(roll, bytes, list);
-    let front = front_of(roll, whole, whole_list, bytes);
-    let places_same = begin_same(whole_list, list, cut.entries as usize);
-    before.after(cut, front, places_same)
+) -> u32 {
+    let expected = with_line(now, line);
+    let mut other = *roll;
+    let entered = enter(line, &mut other, bytes);
+    let answer = entered.answer;
+    if !same_numbers(answer.numbers(), expected) {
+        return NOT_TAKEN;
+    }
+    if !kept(roll, &other, now.place as usize, expected.place as usize) {
+        return CHANGED;
+    }
+    if !reads_as(&other, expected.place, places, expected) {
+        return READ_AGAIN_WRONG;
+    }
+    RIGHT
 }
 
-// Reads every front, the empty one and the whole roll too.
-pub fn read_cuts(roll: &[u8], whole: RollNumbers, whole_list: &[u32], list: &mut [u32]) -> Cuts {
-    let mut cuts = Cuts::new();
-    let end = whole.place;
-    let mut bytes = 0;
+// What is wrong with a front.
+fn cut(roll: &[u8; ROLL], places: &[u32; LIST], line: &[u8], now: RollNumbers, bytes: u32) -> u32 {
+    if !reads_as(roll, bytes, places, now) {
+        return READ_WRONG;
+    }
+    go_on(roll, places, line, now, bytes)
+}
+
+// How many fronts are right, of those that have these entries whole: up to the place where the next entry ends.
+fn cut_between(
+    roll: &[u8; ROLL],
+    places: &[u32; LIST],
+    line: &[u8],
+    before: RollNumbers,
+    end: u32,
+) -> u32 {
+    let mut now = before;
+    let mut right = 0;
+    let mut bytes = before.place;
     while bytes < end {
-        cuts = read_cut(cuts, roll, whole, whole_list, list, bytes);
+        let wrong = cut(roll, places, line, now, bytes);
+        right = wrapping_add_u32(right, right_or_told(wrong, bytes));
+        now.place = start_of(now.place);
         bytes += 1;
     }
-    read_cut(cuts, roll, whole, whole_list, list, end)
+    right
+}
+
+// How many fronts are right, of all that lack a byte or more. Each is gone on with by the entry of the line.
+pub fn cut_lines(lines: &[u8], roll: &[u8; ROLL], places: &[u32; LIST], line: &[u8]) -> u32 {
+    let mut right = 0;
+    let mut now = no_entries();
+    let mut at = 0;
+    while at < lines.len() {
+        let next = past_line(lines, at);
+        let then = with_line(now, &lines[at..next]);
+        right = wrapping_add_u32(right, cut_between(roll, places, line, now, then.place));
+        now = then;
+        at = next;
+    }
+    right
 }

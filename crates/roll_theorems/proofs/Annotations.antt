@@ -43,6 +43,7 @@ module _ (text : List ℕ) (annotated : HoldsAnnotation text) where
       go false h = refl
 
   -- is BADTEXT, where the roll reads and the job number is one
+  -- a theorem of annotations
   pub annotated-bad-text : (buffer : List ℕ) (used : ℕ) (job : List ℕ) {es : List Entry} {end : ℕ} → length buffer ≤ longest
       → RollReads (take used buffer) es end → is-job job ≡ true → {tally : Tally} {a : RollAnswer} {buffer′ : List ℕ} {tally′ : Tally}
       → Adds (file edition-1 buffer used job text) tally a buffer′ tally′ → roll-numbers a .number ≡ BADTEXT
@@ -63,6 +64,7 @@ module _ (text : List ℕ) (annotated : HoldsAnnotation text) where
       go false h = (BadJob, rw (is, h) refl)
 
   -- so the roll is BADROLL, at that entry's place where no earlier one breaks them
+  -- a theorem of annotations
   pub annotated-bad-roll : (bytes : List ℕ) (l : Listing) (front after : List Entry) (e : Entry) (job : List ℕ) → length bytes ≤ longest → roll 1 bytes ≡ some l
       → l .entries ≡ front ++ e ∷ after → broken standard [] front ≡ none → says (e .parts) ≡ FILED job text
       → {list : List ℕ} {r : RollAnswer} {list′ : List ℕ} → Lists bytes list r list′ → (roll-numbers r .number ≡ BADROLL) × (roll-numbers r .place ≡ e .place)
@@ -75,6 +77,7 @@ module _ (text : List ℕ) (annotated : HoldsAnnotation text) where
       (ap (λ (x : RollAnswer). roll-numbers x .number) told, ap (λ (x : RollAnswer). roll-numbers x .place) told)
 
 -- every text in a roll that reads is without
+-- a theorem of annotations
 pub filed-unannotated : (roll : List ℕ) (before after : List Entry) (e : Entry) {end : ℕ} → RollReads roll (before ++ e ∷ after) end
     → (job text : List ℕ) → says (e .parts) ≡ FILED job text → HoldsAnnotation text → ⊥
 filed-unannotated roll before after e reads job text is =

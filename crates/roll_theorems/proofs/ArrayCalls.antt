@@ -8,6 +8,7 @@ use Rattle.roll_rules.specs.declared.Tally.{Tally}
 use Rattle.roll_add.specs.Calls.{Adds}
 use Rattle.turnip.specs.RollArrays.{AddsInArray, five-of-roll}
 
+-- a theorem of the roll
 pub array-adds : {a : Added} {f d : ℕ} {buffer′ tally′ array : List ℕ} → AddsInArray a (f ∷ d ∷ []) buffer′ tally′ array
     → (t : Tally) × Adds a (record { filed = f; done = d }) (a .answer) buffer′ t × (tally′ ≡ t .filed ∷ t .done ∷ []) × (array ≡ five-of-roll (roll-numbers (a .answer)))
 array-adds {a} {f} {d} s =

@@ -120,6 +120,7 @@ first-kept bytes zero h e = absurd (omega arith)
 first-kept bytes (suc k) h e = subst (λ bs. take (suc k) bs ≡ 1 ∷ drop 1 (take (suc k) bs)) (sym e) refl
 
 -- every front part of a roll that reads is read, as the entries whole in it
+-- a theorem of the roll
 pub cut-reads : (roll : List ℕ) {es : List Entry} {end : ℕ} → RollReads roll es end → (n : ℕ) → RollReads (take n roll) (whole-in n es) (min n (torn-from n es end))
 unfolding whole-in torn-from
 cut-reads roll {es} {end} r n = go n (reads-sound roll r)

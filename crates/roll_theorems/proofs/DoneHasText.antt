@@ -111,6 +111,7 @@ stands-done : (job : List ℕ) (e : Entry) (earlier : List Entry) → says (e .p
 unfolding standing newest
 stands-done job e earlier is = ap (λ s. newest job (e .place) s (standing job earlier)) is ∙ rw (same-self job) refl
 
+-- a theorem of the roll
 pub done-has-text : (roll : List ℕ) (before after : List Entry) (e : Entry) {end : ℕ} → RollReads roll (before ++ e ∷ after) end → (job : List ℕ) → says (e .parts) ≡ DONE job
     → HasText job before after
 done-has-text roll before after e r job is =

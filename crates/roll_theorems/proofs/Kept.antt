@@ -24,6 +24,7 @@ use Rattle.roll_theorems.specs.Terms.{OneMore, RollReads, TallyOf, Uncha
 use Rattle.roll_theorems.proofs.Added.{Made, NotMade, made-or-not, one-more, refusal-not-read}
 
 -- no roll has so many jobs that a count would stop
+-- a theorem of the roll
 pub counts-few : (roll : List ℕ) {es : List Entry} {end : ℕ} → RollReads roll es end → length es < largest
 counts-few roll r = let b = reads-before roll r in omega (arith, before-few b, b .within, b .short)
 
@@ -83,30 +84,36 @@ module _ (buffer : List ℕ) (used : ℕ) (kind : EntryKind) (job text : List �
 -- the two kinds of entry
 module _ (buffer : List ℕ) (used : ℕ) (job text : List ℕ) {tally : Tally} {r : RollAnswer} {buffer′ : List ℕ} {tally′ : Tally}
     (call : Adds (file edition-1 buffer used job text) tally r buffer′ tally′) where
+  -- a theorem of the roll
   pub filed-is-last : roll-numbers r .number ≡ READ → OneMore buffer used (job ∷ text ∷ []) r buffer′
   unfolding file
   filed-is-last = entry-added buffer used Filed job text call
 
+  -- a theorem of the roll
   pub filed-tally : roll-numbers r .number ≡ READ → (es : List Entry) (end : ℕ) → RollReads (take used buffer) es end → TallyOf tally es
       → TallyOf tally′ (es ++ new-entry end (job ∷ text ∷ []) ∷ [])
   unfolding file
   filed-tally = tally-kept buffer used Filed job text call
 
+  -- a theorem of the roll
   pub filed-refused : roll-numbers r .number ≢ READ → Unchanged buffer tally r buffer′ tally′
   unfolding file
   filed-refused = entry-refused buffer used Filed job text call
 
 module _ (buffer : List ℕ) (used : ℕ) (job : List ℕ) {tally : Tally} {r : RollAnswer} {buffer′ : List ℕ} {tally′ : Tally}
     (call : Adds (close-job edition-1 buffer used job) tally r buffer′ tally′) where
+  -- a theorem of the roll
   pub done-is-last : roll-numbers r .number ≡ READ → OneMore buffer used (job ∷ []) r buffer′
   unfolding close-job
   done-is-last = entry-added buffer used Done job [] call
 
+  -- a theorem of the roll
   pub done-tally : roll-numbers r .number ≡ READ → (es : List Entry) (end : ℕ) → RollReads (take used buffer) es end → TallyOf tally es
       → TallyOf tally′ (es ++ new-entry end (job ∷ []) ∷ [])
   unfolding close-job
   done-tally = tally-kept buffer used Done job [] call
 
+  -- a theorem of the roll
   pub done-refused : roll-numbers r .number ≢ READ → Unchanged buffer tally r buffer′ tally′
   unfolding close-job
   done-refused = entry-refused buffer used Done job [] call

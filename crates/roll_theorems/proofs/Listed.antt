@@ -27,6 +27,7 @@ module _ {roll list : List ℕ} {r : RollAnswer} {list′ : List ℕ} (call : Li
   list-by e = call .places ∙ ap (λ (x : Read). x .list) e
 
   -- a roll that reads is read, with a list long enough
+  -- a theorem of the roll
   pub reads-listed : (es : List Entry) (end : ℕ) → RollReads roll es end → length es ≤ length list → ListedAs es end list r list′
   reads-listed es end reads room = let so = read-fits edition-1 roll list reads room in record { answered = answer-by so; listed = list-by so }
 
@@ -46,6 +47,7 @@ module _ {roll list : List ℕ} {r : RollAnswer} {list′ : List ℕ} (call : Li
       go (ENTRIES es end) h = by-room es end h (decLt (length list) (length es))
 
   -- what was read is a roll that reads
+  -- a theorem of the roll
   pub listed-reads : roll-numbers r .number ≡ READ → (es : List Entry) × (end : ℕ) × RollReads roll es end × (length es ≤ length list)
   listed-reads e = go listed-or-not
     where
@@ -54,6 +56,7 @@ module _ {roll list : List ℕ} {r : RollAnswer} {list′ : List ℕ} (call : Li
       go (inr (q, so)) = absurd (refusal-not-read q (sym (ap (λ (x : RollAnswer). roll-numbers x .number) (answer-by so)) ∙ e))
 
   -- a refusal changes no number of the list
+  -- a theorem of the roll
   pub read-refused : roll-numbers r .number ≢ READ → Unlisted list r list′
   read-refused e = go listed-or-not
     where
@@ -68,6 +71,7 @@ module _ {roll list : List ℕ} {r : RollAnswer} {list′ : List ℕ} (call : Li
           }
 
 -- the cut: every front part of a roll that reads is read, and never refused, with a list long enough for its entries
+-- a theorem of the roll
 pub cut-listed : (roll : List ℕ) (es : List Entry) (end : ℕ) → RollReads roll es end → (n : ℕ) {list : List ℕ} {r : RollAnswer} {list′ : List ℕ} → Lists (take n roll) list r list′
     → length (whole-in n es) ≤ length list → ListedAs (whole-in n es) (min n (torn-from n es end)) list r list′
 cut-listed roll es end reads n call room = reads-listed call (whole-in n es) (min n (torn-from n es end)) (cut-reads roll reads n) room

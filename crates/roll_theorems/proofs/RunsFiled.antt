@@ -89,6 +89,7 @@ module _ (buffer : List ℕ) (used : ℕ) (job text : List ℕ) {es : List Entry
       (ap (λ (x : RollAnswer). roll-numbers x .number) so, ap (λ (x : RollAnswer). roll-numbers x .place) so)
 
 -- what was filed is its job's last entry
+-- a theorem of the roll
 pub filed-stands-last : (buffer : List ℕ) (used : ℕ) (job text : List ℕ) {tally : Tally} {a : RollAnswer} {buffer′ : List ℕ} {tally′ : Tally}
     → (call : Adds (file edition-1 buffer used job text) tally a buffer′ tally′) → (added : roll-numbers a .number ≡ READ)
     → let o = filed-is-last buffer used job text call added in
@@ -157,6 +158,7 @@ module _ {text : List ℕ} {quota : ℕ} {memory out : List ℕ} {r : RunAnswer}
   reads : Reads cellLimit (saved (run-numbers r) out′) (its .0)
   reads = let back = text-reads-back call unrefused (its .1) in let few = sound-cells (meanings.reads-sound back) in reads-with-more cellLimit (few .1) (omega arith) back
 
+  -- a theorem of the roll
   pub saved-is-printed : is-printed standard (saved (run-numbers r) out′) ≡ true
   saved-is-printed = printed-is reads (its .2)
 
@@ -167,6 +169,7 @@ module _ {text : List ℕ} {quota : ℕ} {memory out : List ℕ} {r : RunAnswer}
       (λ e. f .1 (d .0 e), λ e. d .1 (f .0 e))
 
   -- its text is not refused as one
+  -- a theorem of the roll
   pub run-can-be-filed : (buffer : List ℕ) (used : ℕ) (job : List ℕ) {tally : Tally} {a : RollAnswer} {buffer′ : List ℕ} {tally′ : Tally}
       → Adds (file edition-1 buffer used job (saved (run-numbers r) out′)) tally a buffer′ tally′ → roll-numbers a .number ≢ BADTEXT
   run-can-be-filed buffer used job filing = printed-not-refused buffer used job (saved (run-numbers r) out′) saved-is-printed filing
@@ -175,10 +178,12 @@ module _ {text : List ℕ} {quota : ℕ} {memory out : List ℕ} {r : RunAnswer}
   module _ (buffer : List ℕ) (used : ℕ) (job : List ℕ) {es : List Entry} {end place : ℕ} (reads-so : RollReads (take used buffer) es end) (last : FiledLast job (saved (run-numbers r) out′) es place)
       (short : length buffer ≤ longest) {tally : Tally} {b : RollAnswer} {buffer′ : List ℕ} {tally′ : Tally} (closing : Adds (close-job edition-1 buffer used job) tally b buffer′ tally′) where
     -- a DONE text can be marked done, where there is room
+    -- a theorem of the roll
     pub done-can-be-marked : run-numbers r .number ≡ demanded.DONE → roll-numbers b .number ≢ NOROOM → roll-numbers b .number ≡ READ
     done-can-be-marked e = finished-closes buffer used job (saved (run-numbers r) out′) reads-so last short closing (saved-finished .0 e)
 
     -- and no other can
+    -- a theorem of the roll
     pub others-cannot : run-numbers r .number ≢ demanded.DONE → (roll-numbers b .number ≡ UNFINISHED) × (roll-numbers b .place ≡ place)
     others-cannot e = unfinished-stays buffer used job (saved (run-numbers r) out′) reads-so last short closing (go (is-finished standard (saved (run-numbers r) out′)) refl)
       where

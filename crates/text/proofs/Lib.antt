@@ -1,4 +1,2 @@
-pub mod Characters
 pub mod Marks
 pub mod Table
-pub mod Values

@@ -1,2 +1,1 @@
-pub mod Continued
 pub mod TokenEnds

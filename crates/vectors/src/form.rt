@@ -5,6 +5,11 @@
 ghost use Prim.Native.Nat.{_≤_};
 ghost use mathlib.Core.Path.{_≡_};
 ghost use lib.ListN.{length};
+use std::num::wrapping_add_usize;
+
+pub const READ: usize = 1;
+
+pub const RUN: usize = 2;
 
 // A place in no line.
 const NOWHERE: usize = usize::MAX;
@@ -18,10 +23,13 @@ pub struct Field {
     pub next: usize,
 }
 
+// The largest quota that a call takes.
+const QUOTA: usize = 4_294_967_295;
+
 // The numbers of a case, with the place of its TEXT. The quota and the memory are for RUN.
 pub struct Case {
     pub kind: usize,
-    pub quota: usize,
+    pub quota: u32,
     pub memory: usize,
     pub output: usize,
     pub number: usize,
@@ -32,10 +40,11 @@ pub struct Case {
     pub next: usize,
 }
 
-// The two digits of a byte, if they are there.
-enum Pair {
-    Byte { byte: u8, next: usize },
-    Missing,
+// What of the room TEXT and OUT take, one behind the other, and the place past them.
+pub struct Unpacked {
+    pub text: usize,
+    pub out: usize,
+    pub next: usize,
 }
 
 impl Field {
@@ -62,7 +71,7 @@ impl Case {
         let place = number(line, length.next);
         Self {
             kind: kind.value,
-            quota: quota.value,
+            quota: quota_of(quota.value),
             memory: memory.value,
             output: output.value,
             number: answer.value,
@@ -70,19 +79,37 @@ impl Case {
             cells: cells.value,
             length: length.value,
             place: place.value,
-            next: place.next,
+            next: next_of(kind.value, quota.value, place.next),
         }
     }
 }
 
-// The value of a digit, of a number or of a pattern; 16 for any other byte.
-fn digit(byte: u8) -> u8
-    ensures { λ r. ⌜ r ≤ 16 ⌝ }
+fn quota_of(value: usize) -> u32 {
+    if QUOTA < value {
+        return 0;
+    }
+    value as u32
+}
+
+// A line of another kind, or with a quota that no call takes, is malformed.
+fn next_of(kind: usize, quota: usize, next: usize) -> usize {
+    if QUOTA < quota {
+        return NOWHERE;
+    }
+    match kind {
+        READ | RUN => next,
+        _ => NOWHERE,
+    }
+}
+
+// The value of a digit, of a number or of a pattern; 256 for any other byte.
+fn digit(byte: u8) -> usize
+    ensures { λ r. ⌜ r ≤ 265 ⌝ }
 {
     match byte {
-        b'0'..=b'9' => byte - b'0',
-        b'a'..=b'f' => byte - b'a' + 10,
-        _ => 16,
+        b'0'..=b'9' => wide(byte - b'0'),
+        b'a'..=b'f' => wide(byte - b'a') + 10,
+        _ => 256,
     }
 }
 
@@ -115,7 +142,7 @@ fn number(line: &[u8], from: usize) -> Field {
         if LARGEST < value {
             break;
         }
-        value = value * 10 + wide(digit);
+        value = value * 10 + digit;
         at += 1;
     }
     if at == from {
@@ -127,27 +154,16 @@ fn number(line: &[u8], from: usize) -> Field {
     }
 }
 
-// The byte whose two digits stand at a place.
-fn pair_at(line: &[u8], at: usize) -> Pair {
+// The byte whose two digits stand at a place; more than 255 where two such are not there.
+fn pair_at(line: &[u8], at: usize) -> usize {
+    let second = wrapping_add_usize(at, 1);
     if line.len() <= at {
-        return Pair::Missing;
+        return 256;
     }
-    let second = at + 1;
     if line.len() <= second {
-        return Pair::Missing;
+        return 256;
     }
-    let high = digit(line[at]);
-    let low = digit(line[second]);
-    if 15 < high {
-        return Pair::Missing;
-    }
-    if 15 < low {
-        return Pair::Missing;
-    }
-    Pair::Byte {
-        byte: high * 16 + low,
-        next: second + 1,
-    }
+    digit(line[at]) * 16 + digit(line[second])
 }
 
 // Puts the pattern that begins at a place to the front of the room. One that is longer than the room is malformed: no
@@ -156,12 +172,13 @@ fn put_pattern(line: &[u8], from: usize, room: &mut [u8]) -> Field {
     let mut at = from;
     let mut put = 0;
     while put < room.len() {
-        let Pair::Byte { byte, next } = pair_at(line, at) else {
+        let byte = pair_at(line, at);
+        if 255 < byte {
             break;
-        };
-        room[put] = byte;
+        }
+        room[put] = byte as u8;
         put += 1;
-        at = next;
+        at = wrapping_add_usize(at, 2);
     }
     Field {
         value: put,
@@ -206,7 +223,7 @@ fn put_repeated(line: &[u8], from: usize, room: &mut [u8]) -> Field
 }
 
 // Puts the bytes that the field at a place stands for to the front of the room.
-pub fn expand(line: &[u8], from: usize, room: &mut [u8]) -> Field
+fn expand(line: &[u8], from: usize, room: &mut [u8]) -> Field
     ensures { λ r. ⌜ r .value ≤ length (now (room .exit)) ⌝ }
 {
     let runs = number(line, from);
@@ -225,5 +242,19 @@ pub fn expand(line: &[u8], from: usize, room: &mut [u8]) -> Field
     Field {
         value: filled,
         next: at,
+    }
+}
+
+// Puts TEXT to the front of the room, and OUT behind it.
+pub fn unpack(line: &[u8], from: usize, room: &mut [u8]) -> Unpacked
+    ensures { λ r. ⌜ (r .text ≤ r .out) × (r .out ≤ length (now (room .exit))) ⌝ }
+{
+    let text = expand(line, from, room);
+    let start = text.value;
+    let out = expand(line, text.next, &mut room[start..]);
+    Unpacked {
+        text: start,
+        out: start + out.value,
+        next: out.next,
     }
 }

@@ -1,6 +1,7 @@
 // A program that runs READ and RUN on each case of standard input, and compares what they answer and write with what the case expects. It
-// says how many cases differ. It also says how many runs leave a number of the memory that is not 0, or change a byte of the output past
-// the text.
+// says how many are as expected, and points out the first lines that are not, by the line and the fault: 3 something else was answered or
+// written, 4 a byte of the output past the text was changed, 5 a number of the memory is not 0, 6 the line is malformed. Of a line with
+// more faults than one it says the first of these.
 //
 // A case is a line, made by tests/vectors-to-stdin.py:
 //
@@ -19,9 +20,8 @@ use answers::of_run;
 use bytes::scan::find;
 use check::same;
 use form::Case;
-use form::expand;
-use input::Input;
-use input::read_whole;
+use form::READ;
+use form::unpack;
 use kinds::Cell;
 use kinds::Place;
 use kinds::Token;
@@ -29,141 +29,110 @@ use lending::all_zero;
 use lending::fill_memory;
 use lending::fill_output;
 use lending::untouched;
+use lines::read_input;
 use numbers::Numbers;
 use numbers::of_read;
-use report::LineReport;
+use report::BYTES_CHANGED;
+use report::DIFFERS;
+use report::MALFORMED;
+use report::MEMORY_LEFT;
+use report::READ_RIGHT;
+use report::RUN_RIGHT;
 use report::Report;
-use report::RunReport;
-use telling::say;
 
 // Room for all of the input, and more.
 const INPUT: usize = 2_097_152;
 
-// A byte more than the longest text, for the cases that are TOOLONG.
-const TEXT: usize = Place::LIMIT + 1;
-
 // The longest printed text: cells that are all tokens, each as long as may be.
 const OUTPUT: usize = Token::LIMIT * Cell::LIMIT;
+
+// Room for what is written behind a text: a byte more than the longest text, for the cases that are TOOLONG.
+const ROOM: usize = Place::LIMIT + 1 + OUTPUT;
 
 // More numbers than a run may be lent, for the cases that are BADARENA.
 const MEMORY: usize = 100_000;
 
-const READ: usize = 1;
-
-const RUN: usize = 2;
-
-// The largest quota that a call takes.
-const QUOTA: usize = 4_294_967_295;
-
-fn wide(number: u32) -> usize {
-    number as usize
-}
-
-// Whether an answer has the five numbers that a case expects.
+// Whether an answer has the five numbers that a case expects: only then has none a bit that the other lacks.
 fn is_expected(numbers: Numbers, case: Case) -> bool {
-    wide(numbers.number) == case.number
-        && wide(numbers.steps) == case.steps
-        && wide(numbers.cells) == case.cells
-        && wide(numbers.length) == case.length
-        && wide(numbers.place) == case.place
+    (numbers.number as usize ^ case.number)
+        | (numbers.steps as usize ^ case.steps)
+        | (numbers.cells as usize ^ case.cells)
+        | (numbers.length as usize ^ case.length)
+        | (numbers.place as usize ^ case.place)
+        == 0
 }
 
-// Whether READ answers and writes what a case expects. `expected` is what the whole output is to become. So one comparison holds each byte
-// to the text expected, or to what the output was filled with.
-fn reads(case: Case, text: &[u8], output: &mut [u8], expected: &[u8]) -> bool {
-    fill_output(output);
-    let numbers = of_read(read::read(text, output));
-    if is_expected(numbers, case) {
-        return same(output, expected);
-    }
-    false
+fn read_text(text: &[u8], output: &mut [u8]) -> Numbers {
+    of_read(read::read(text, output))
 }
 
-// What comes of a run.
-fn runs(
-    case: Case,
-    text: &[u8],
-    memory: &mut [u32],
-    output: &mut [u8],
-    expected: &[u8],
-) -> LineReport {
-    let quota = case.quota;
-    let length = case.length;
-    if QUOTA < quota {
-        return LineReport::Malformed;
-    }
-    fill_memory(memory);
-    fill_output(output);
-    let numbers = of_run(run::run(text, quota as u32, memory, output));
-    LineReport::Ran(RunReport {
-        as_expected: is_expected(numbers, case) && same(output, expected),
-        memory_zero: all_zero(memory),
-        rest_untouched: untouched(output, length),
-    })
+fn run_text(text: &[u8], quota: u32, memory: &mut [u32], output: &mut [u8]) -> Numbers {
+    of_run(run::run(text, quota, memory, output))
 }
 
 // Calls the service of a case.
-fn call(
-    case: Case,
-    text: &[u8],
-    memory: &mut [u32],
-    output: &mut [u8],
-    expected: &[u8],
-) -> LineReport {
-    let kind = case.kind;
-    match kind {
-        READ => LineReport::Read(reads(case, text, output, expected)),
-        RUN => runs(case, text, memory, output, expected),
-        _ => LineReport::Malformed,
+fn call(case: Case, text: &[u8], memory: &mut [u32], output: &mut [u8]) -> Numbers {
+    fill_output(output);
+    if case.kind == READ {
+        return read_text(text, output);
     }
+    fill_memory(memory);
+    run_text(text, case.quota, memory, output)
 }
 
-// Makes the text of a case and what its output is to become, and calls its service.
-fn compare(
-    line: &[u8],
-    case: Case,
-    text: &mut [u8],
-    memory: &mut [u32],
-    output: &mut [u8],
-    expected: &mut [u8],
-) -> LineReport {
-    fill_output(expected);
-    let given = expand(line, case.next, text);
-    let written = expand(line, given.next, expected);
-    if written.next != line.len() {
-        return LineReport::Malformed;
+// What came of a call. `written` is what the case expects to be written. A call of READ is lent no memory.
+fn judge(case: Case, numbers: Numbers, written: &[u8], memory: &[u32], output: &[u8]) -> u32 {
+    let length = written.len();
+    if !is_expected(numbers, case) {
+        return DIFFERS;
     }
-    let length = given.value;
-    call(case, &text[0..length], memory, output, expected)
+    if output.len() < length {
+        return DIFFERS;
+    }
+    if !same(&output[0..length], written) {
+        return DIFFERS;
+    }
+    if !untouched(output, length) {
+        return BYTES_CHANGED;
+    }
+    if !all_zero(memory) {
+        return MEMORY_LEFT;
+    }
+    if case.kind == READ {
+        return READ_RIGHT;
+    }
+    RUN_RIGHT
+}
+
+// Calls the service of a case, and judges what came of it.
+fn compare(case: Case, text: &[u8], written: &[u8], memory: &mut [u32], output: &mut [u8]) -> u32 {
+    let numbers = call(case, text, memory, output);
+    judge(case, numbers, written, memory, output)
 }
 
 // Runs the case of a line, with as much of the memory and of the output lent as it says.
-fn run_case(
-    line: &[u8],
-    text: &mut [u8],
-    memory: &mut [u32],
-    output: &mut [u8],
-    expected: &mut [u8],
-) -> LineReport {
+fn run_case(line: &[u8], room: &mut [u8], memory: &mut [u32], output: &mut [u8]) -> u32 {
     let case = Case::read(line);
     let numbers = case.memory;
     let bytes = case.output;
     if memory.len() < numbers {
-        return LineReport::Malformed;
+        return MALFORMED;
     }
     if output.len() < bytes {
-        return LineReport::Malformed;
+        return MALFORMED;
     }
-    if expected.len() < bytes {
-        return LineReport::Malformed;
+    let unpacked = unpack(line, case.next, room);
+    let text = unpacked.text;
+    let out = unpacked.out;
+    if unpacked.next != line.len() {
+        return MALFORMED;
     }
     compare(
-        line,
         case,
-        text,
+        &room[0..text],
+        &room[text..out],
         &mut memory[0..numbers],
         &mut output[0..bytes],
-        &mut expected[0..bytes],
     )
 }
 
@@ -180,66 +149,42 @@ fn past_line(input: &[u8], at: usize) -> usize
 }
 
 fn run_cases(
-    input: &[u8],
-    text: &mut [u8],
-    memory: &mut [u32],
-    output: &mut [u8],
-    expected: &mut [u8],
+    lines: &[u8],
+    room: &mut [u8; ROOM],
+    memory: &mut [u32; MEMORY],
+    output: &mut [u8; OUTPUT],
 ) -> Report {
     let mut report = Report::new();
     let mut at = 0;
-    while at < input.len() {
-        let next = past_line(input, at);
-        let outcome = run_case(&input[at..next], text, memory, output, expected);
+    while at < lines.len() {
+        let next = past_line(lines, at);
+        let outcome = run_case(&lines[at..next], room, memory, output);
         report = report.after(outcome);
         at = next;
     }
     report
 }
 
-// An input that fills its room may go on, so it is not run.
-fn run_input(
-    input: &mut [u8],
-    text: &mut [u8],
-    memory: &mut [u32],
-    output: &mut [u8],
-    expected: &mut [u8],
-) {
-    let Input::Read(read) = read_whole(input) else {
-        os::fail(b"vectors: standard input");
-        return;
-    };
-    if input.len() <= read {
-        say(b"input too long\n");
-        return;
-    }
-    let report = run_cases(&input[0..read], text, memory, output, expected);
+fn run_lines(lines: &[u8]) {
+    let mut room = [0u8; ROOM];
+    let mut memory = [0u32; MEMORY];
+    let mut output = [0u8; OUTPUT];
+    let report = run_cases(lines, &mut room, &mut memory, &mut output);
     report.print();
 }
 
-// Lends each buffer as a slice. Behind a reference its length is known by its type; in `main` a proof would go through
-// its zeros one by one.
-fn lend(
-    input: &mut [u8; INPUT],
-    text: &mut [u8; TEXT],
-    memory: &mut [u32; MEMORY],
-    output: &mut [u8; OUTPUT],
-    expected: &mut [u8; OUTPUT],
-) {
-    run_input(input, text, memory, output, expected);
+// Where the input cannot be read, or fills its room and so may go on, standard error says so, and no case is run.
+fn run_input(input: &mut [u8]) {
+    let read = read_input(input);
+    run_lines(&input[0..read]);
+}
+
+// Behind a reference the length of a buffer is known by its type; in `main` a proof would go through its zeros one by one.
+fn lend(input: &mut [u8; INPUT]) {
+    run_input(input);
 }
 
 fn main() {
     let mut input = [0u8; INPUT];
-    let mut text = [0u8; TEXT];
-    let mut memory = [0u32; MEMORY];
-    let mut output = [0u8; OUTPUT];
-    let mut expected = [0u8; OUTPUT];
-    lend(
-        &mut input,
-        &mut text,
-        &mut memory,
-        &mut output,
-        &mut expected,
-    );
+    lend(&mut input);
 }

@@ -1,97 +1,110 @@
-// Word lists as they are stored, built in a buffer.
-ghost use mathlib.Core.Path.{_≡_};
-ghost use mathlib.Core.Bool.{true};
-ghost use Prim.Native.Nat.{_+_, _≤_, _<_, _^_};
+// Word lists as they are stored, built in a buffer from the field of a line.
+//
+// The field is words `name = text` parted by `, `, or `0x` and the bytes of a list in hex, or `-` for the list of the line before. An empty
+// field is the list of no words.
+ghost use Prim.Native.Nat.{_≤_};
 ghost use lib.ListN.{length};
+use check::same;
+use lines::Sign;
+use lines::find_sign;
+use lines::past_sign;
+use lines::put_hex;
+use stored::NUMBER;
 use stored::put_counted;
 use stored::put_number;
 
-// A list in the first bytes of a buffer, and how many words it has.
-pub struct Words {
-    pub used: usize,
-    pub count: u32,
-}
-
-// No word here is longer, and no list has more of them.
+// No name and no text here is longer.
 const LONGEST: usize = 1000;
 
-const MANY: u32 = 1000;
+// No list has more words.
+const MOST: u32 = 1000;
 
-// Whether a word has room behind the bytes in use.
-fn has_room(room: usize, used: usize, name: usize, text: usize) -> bool
-    ensures { λ r. ⌜ (r ≡ true → (used + 8 + name + text ≤ room) × (name < 2 ^ 32) × (text < 2 ^ 32)) ⌝ }
-{
-    if LONGEST < name {
-        return false;
-    }
-    if LONGEST < text {
-        return false;
-    }
-    if room < used {
-        return false;
-    }
-    8 + name + text <= room - used
+// A list in the first bytes of a buffer, how many words were put into it, and whether all of its field could be read.
+pub struct List {
+    pub bytes: usize,
+    pub words: u32,
+    pub right: bool,
 }
 
-// The list of no words.
-pub fn no_words(list: &mut [u8]) -> Words
-    requires { ⌜ 4 ≤ length (now list) ⌝ }
+// Puts bytes behind their count at a place, and gives the place behind them; 0 if there is no room.
+fn put_bytes(list: &mut [u8], at: usize, given: &[u8]) -> usize
+    ensures { λ r. ⌜ r ≤ length (now (list .exit)) ⌝ }
 {
-    put_number(list, 0, 0);
-    Words { used: 4, count: 0 }
+    if LONGEST < given.len() {
+        return 0;
+    }
+    if list.len() < at {
+        return 0;
+    }
+    if list.len() - at < NUMBER + given.len() {
+        return 0;
+    }
+    put_counted(list, at, given);
+    at + NUMBER + given.len()
 }
 
-// Adds a word; a list that has no room for it stays as it was.
-pub fn add_word(list: &mut [u8], words: Words, name: &[u8], text: &[u8]) -> Words
-    requires { ⌜ 4 ≤ length (now list) ⌝ }
+// Puts a word behind those of a list. With one that cannot be put, the list is not right.
+fn put_word(list: &mut [u8], before: List, word: &[u8]) -> List
+    ensures { λ r. ⌜ r .bytes ≤ length (now (list .exit)) ⌝ }
 {
-    let used = words.used;
-    let count = words.count;
-    if MANY < count {
-        return words;
-    }
-    if has_room(list.len(), used, name.len(), text.len()) {
-        let behind = used + 4 + name.len();
-        put_counted(list, used, name);
-        put_counted(list, behind, text);
-        put_number(list, 0, count + 1);
-        return Words {
-            used: behind + 4 + text.len(),
-            count: count + 1,
+    let sign = find_sign(word, 0, b" = ");
+    let name_end = sign.at;
+    let text = sign.past;
+    let behind = put_bytes(list, before.bytes, &word[0..name_end]);
+    let bytes = put_bytes(list, behind, &word[text..]);
+    let words = before.words;
+    if MOST < words || behind == 0 || bytes == 0 || name_end == word.len() {
+        return List {
+            bytes,
+            words,
+            right: false,
         };
     }
-    words
-}
-
-// Writes a rank in three digits.
-fn put_rank(bytes: &mut [u8], at: usize, rank: u32)
-    requires { ⌜ at + 3 ≤ length (now bytes) ⌝ }
-{
-    bytes[at] = b'0' + (rank / 100 % 10) as u8;
-    bytes[at + 1] = b'0' + (rank / 10 % 10) as u8;
-    bytes[at + 2] = b'0' + (rank % 10) as u8;
-}
-
-// A list of 256 words: the first has a text of its own, and the others the text lent, with the rank of the word before put at two places.
-pub fn grow(
-    list: &mut [u8],
-    name: &mut [u8],
-    first: &[u8],
-    text: &mut [u8],
-    at: usize,
-    again: usize,
-) -> Words
-    requires { ⌜ (4 ≤ length (now list)) × (3 ≤ length (now name)) × (at + 3 ≤ length (now text)) × (again + 3 ≤ length (now text)) ⌝ }
-{
-    let mut words = no_words(list);
-    words = add_word(list, words, b"000", first);
-    let mut rank: u32 = 1;
-    while rank < 256 {
-        put_rank(text, at, rank - 1);
-        put_rank(text, again, rank - 1);
-        put_rank(name, 0, rank);
-        words = add_word(list, words, name, text);
-        rank += 1;
+    List {
+        bytes,
+        words: words + 1,
+        right: before.right,
     }
-    words
+}
+
+// Puts the words of a field behind the list's count.
+fn put_words(list: &mut [u8], field: &[u8]) -> List
+    requires { ⌜ 4 ≤ length (now list) ⌝ }
+    ensures { λ r. ⌜ r .bytes ≤ length (now (list .exit)) ⌝ }
+{
+    let mut put = List {
+        bytes: NUMBER,
+        words: 0,
+        right: true,
+    };
+    let mut sign = Sign { at: 0, past: 0 };
+    while sign.at < field.len() {
+        let from = sign.past;
+        sign = find_sign(field, from, b", ");
+        let end = sign.at;
+        put = put_word(list, put, &field[from..end]);
+    }
+    put
+}
+
+// Puts the list that a field stands for to the front of a buffer, which holds that of the line before.
+pub fn put_list(list: &mut [u8], field: &[u8], before: List) -> List
+    requires { ⌜ (4 ≤ length (now list)) × (before .bytes ≤ length (now list)) ⌝ }
+    ensures { λ r. ⌜ r .bytes ≤ length (now (list .exit)) ⌝ }
+{
+    if same(field, b"-") {
+        return before;
+    }
+    let digits = past_sign(field, 0, b"0x");
+    if 0 < digits {
+        let put = put_hex(&field[digits..], list);
+        return List {
+            bytes: put.bytes,
+            words: 0,
+            right: put.all,
+        };
+    }
+    let put = put_words(list, field);
+    put_number(list, 0, put.words);
+    put
 }

@@ -42,6 +42,7 @@ fault-told : (f : TextFault) → fault-numbers f ≡ placeless (fault-numbers f)
 fault-told f = rw (ne-eqb (fault-number f) OVERFULL (fault-number-is f .no-overfull))
 
 -- Linking by the empty list gives what READ gives, except OVERFULL's place, which is 0: the same five numbers and the same bytes
+-- a theorem of stock words
 pub no-words-is-read : {text out : List ℕ} {r : LinkAnswer} {s : ReadAnswer} {a b : List ℕ}
     → Links no-words text out r a → ReadsOut text out s b → (link-numbers r ≡ placeless (read-numbers s)) × (a ≡ b)
 unfolding read-outcome as-read write
@@ -72,6 +73,7 @@ no-words-is-read {text} {out} {r} {s} {a} {b} call read = rw (read .wrote .answe
 
 -- "Linking what was linked changes nothing": a second call by the same list on the saved text, with an output long enough for it, tells the
 -- same numbers and saves the same text
+-- a theorem of stock words
 pub link-twice : {list text out out₂ : List ℕ} {r s : LinkAnswer} {a b : List ℕ} → Links list text out r a → IsLinked (link-numbers r)
     → Links list (saved (link-numbers r) a) out₂ s b → link-numbers r .length ≤ length out₂
     → (link-numbers s ≡ link-numbers r) × (saved (link-numbers s) b ≡ saved (link-numbers r) a)

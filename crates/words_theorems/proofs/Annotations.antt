@@ -32,6 +32,7 @@ use Rattle.words_theorems.proofs.Lists.{not-both, words-right}
 use Rattle.words_theorems.proofs.Meanings.{holds-relabel, linked-allowed, linked-same, reads-known, relabel-link}
 
 -- the saved text holds no annotation
+-- a theorem of annotations
 pub linked-unannotated : {list text out : List ℕ} {r : LinkAnswer} {out′ : List ℕ} → Links list text out r out′ → IsLinked (link-numbers r)
     → HoldsAnnotation (saved (link-numbers r) out′) → ⊥
 linked-unannotated call linked =
@@ -49,6 +50,7 @@ text-reads {text} {p} reads =
     }
 
 -- a plan text with annotations links as without them, by every list
+-- a theorem of annotations
 pub text-without-marks : {list text out : List ℕ} {r s : LinkAnswer} {a b : List ℕ} {p : Plan ℕ}
     → Links list text out r a → Links list (without-marks OUTSIDE text) out s b → HasPlan text p → (s ≡ r) × (b ≡ a)
 text-without-marks {list} {text} {out} call bare reads = same-calls bare call (go (link-case call))
@@ -118,6 +120,7 @@ stands-alike (w ∷ older) (one, r) t = go (same t (stock-token w)) (stands-alik
     go false earlier = earlier t
 
 -- a word's text with annotations links as without them: every text gets the same answer, and every output the same bytes
+-- a theorem of annotations
 pub words-without-marks : {list list₂ text out : List ℕ} {ws : List Word} {r s : LinkAnswer} {a b : List ℕ} → HasWords list ws → HasWords list₂ (map without-its-marks ws)
     → Links list text out r a → Links list₂ text out s b → (s ≡ r) × (b ≡ a)
 words-without-marks {list} {list₂} {text} {out} {ws} has has₂ call bare = same-calls bare call (go (link-case call))
@@ -145,6 +148,7 @@ unfolding used
 same-uses t [] r = refl
 same-uses t (w ∷ older) (one, r) = ap₂ _||_ (its-tokens w (its-text older w one) t) (same-uses t older r)
 
+-- a theorem of annotations
 pub words-stay-right : (ws : List Word) → Right standard ws → Right standard (map without-its-marks ws)
 unfolding right fits
 words-stay-right [] r = tt

@@ -127,6 +127,7 @@ same-calls call other e = wrote-once link-family (rw e at (call .wrote)) (other 
 
 module _ {list text out : List ℕ} {r : LinkAnswer} {out′ : List ℕ} (call : Links list text out r out′) where
   -- a call that linked had a right list and a text that reads,
+  -- a theorem of stock words
   pub linked-by-words : IsLinked (link-numbers r) → (ws : List Word) × (p : Plan ℕ) × HasWords list ws × HasPlan text p
   linked-by-words h = go (link-case call) h
     where
@@ -143,6 +144,7 @@ module _ {list text out : List ℕ} {r : LinkAnswer} {out′ : List ℕ} (call :
     same g h = ap₂ linked-by (one-stock g has) (one-plan h reads)
 
     -- and answered and left what the table says;
+    -- a theorem of stock words
     pub linked-as : IsLinked (link-numbers r) → LinkedAs out ws p (link-numbers r) out′
     linked-as h = go (link-case call) h
       where
@@ -170,6 +172,7 @@ module _ {list text out : List ℕ} {r : LinkAnswer} {out′ : List ℕ} (call :
             (subst (λ y. LinkedAs out vs y told (t ++ drop (length t) out)) (one-plan x reads) (its vs q few fits))
 
     -- where the linked plan is not too big and there is room for its text, it did link
+    -- a theorem of stock words
     pub call-linked : cells (linked-by ws p) ≤ cellLimit → length (print (linked-by ws p)) ≤ length out → IsLinked (link-numbers r)
     call-linked few fits = go (link-case call)
       where

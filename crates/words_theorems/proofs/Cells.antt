@@ -24,21 +24,25 @@ abbrev counts-for : List Word → List ℕ → ℕ
 counts-for ws t = token-cells (stands-for tokenLimit ws) t
 
 -- the linked plan's cells are the plan's, each token counted for so many; with 1 for each they are the plan's own (`cells-by-ones`)
+-- a theorem of stock words
 pub linked-cells : (ws : List Word) (p : Plan ℕ) → cells (linked-by ws p) ≡ cells-by (counts-for ws) p
 linked-cells ws p = cells-link (stands-for tokenLimit ws) p
 
 -- a listed word's token counts for the cells of the word's linked plan,
+-- a theorem of stock words
 pub listed-counts-for : {list : List ℕ} (newer older : List Word) (w : Word) → HasWords list (newer ++ w ∷ older)
     → counts-for (newer ++ w ∷ older) (stock-token w) ≡ cells (linked-by older (plan-of tokenLimit (w .text)))
 unfolding token-cells cells-put
 listed-counts-for newer older w has = ap cells-put (word-stands-for newer older w has)
 
 -- and any other for 1
+-- a theorem of stock words
 pub unlisted-counts-for : (ws : List Word) (t : List ℕ) → listed t ws ≡ false → counts-for ws t ≡ 1
 unfolding token-cells cells-put
 unlisted-counts-for ws t e = ap cells-put (stands-none tokenLimit ws t .1 e)
 
 -- these are the cells that a call tells
+-- a theorem of stock words
 pub told-cells : {list text out : List ℕ} {r : LinkAnswer} {out′ : List ℕ} → Links list text out r out′ → IsLinked (link-numbers r)
     → {ws : List Word} {p : Plan ℕ} → HasWords list ws → HasPlan text p → link-numbers r .cells ≡ cells-by (counts-for ws) p
 told-cells call linked {ws} {p} has reads = ap (λ (v : Numbers). v .cells) (linked-as call has reads linked .numbers) ∙ linked-cells ws p

@@ -25,6 +25,7 @@ use Rattle.words_theorems.proofs.Cases.{call-linked, linked-as, linked-
 use Rattle.words_theorems.proofs.Meanings.{bare-cells, bare-print, linked-same, reads-faultless, reads-known}
 
 -- of plans
+-- a theorem of stock words
 pub linked-then : (ws : List Word) (p q : Plan ℕ) → linked-by ws (p then q) ≡ linked-by ws p then linked-by ws q
 linked-then ws p q = link-then (stands-for tokenLimit ws) p q
 
@@ -100,6 +101,7 @@ module _ {list a b out₁ out₂ out : List ℕ} {r₁ r₂ r : LinkAnswer} {lef
   together linked = reads-then (read₁ .3) (read₂ .3) (linked-by-words both linked .3 .short)
 
   -- that call links them exactly when the texts are not too long together, nor the linked plans too big, nor the output too short;
+  -- a theorem of stock words
   pub linked-both : IsLinked (link-numbers r)
       ↔ ((length (a ++ b) ≤ textLimit) × (link-numbers r₁ .cells + link-numbers r₂ .cells ≤ cellLimit)
       × (link-numbers r₁ .length + link-numbers r₂ .length ≤ length out))
@@ -120,6 +122,7 @@ module _ {list a b out₁ out₂ out : List ℕ} {r₁ r₂ r : LinkAnswer} {lef
           call-linked both (read₁ .2) (x .reads) (subst (_≤ cellLimit) (sym (sum-cells x)) few) (subst (_≤ length out) (sym (sum-length x)) fits)
 
   -- and then its text is the one's linked text, then the other's, and the cells and lengths are added
+  -- a theorem of stock words
   pub links-then : IsLinked (link-numbers r)
       → (saved (link-numbers r) left ≡ saved (link-numbers r₁) left₁ ++ saved (link-numbers r₂) left₂) × (link-numbers r .cells ≡ link-numbers r₁ .cells + link-numbers r₂ .cells)
       × (link-numbers r .length ≡ link-numbers r₁ .length + link-numbers r₂ .length)

@@ -213,6 +213,7 @@ words-found {list} {ws} has =
     ∙ past-words 0 (has .whole)
 
 -- a list is at fault at a rank exactly when the definition finds that rank, and right with these words exactly when it finds them
+-- a theorem of stock words
 pub bad-exactly-when : (list : List ℕ) (rank : ℕ) → BadList list rank ↔ (stock standard list ≡ LIST-FAULT rank)
 bad-exactly-when list rank = (bad-found, λ e. go (verdict list) e)
   where
@@ -220,6 +221,7 @@ bad-exactly-when list rank = (bad-found, λ e. go (verdict list) e)
     go (at-fault {rank = r} bad) e = let same : r ≡ rank = cc in subst (BadList list) same bad
     go (all-right has) e = never cc
 
+-- a theorem of stock words
 pub right-exactly-when : (list : List ℕ) (ws : List Word) → HasWords list ws ↔ (stock standard list ≡ WORDS ws)
 right-exactly-when list ws = (words-found, λ e. go (verdict list) e)
   where

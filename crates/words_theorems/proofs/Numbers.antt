@@ -53,6 +53,7 @@ same-answer (Linked c l) (Linked d m) h =
     ap (λ (v : Numbers). Linked (v .cells) (v .length)) h
 
 -- "Number 14 is never given again"
+-- a theorem of tokens' faults
 pub fourteen-never-given : (r : LinkAnswer) → link-numbers r .number ≢ 14
 fourteen-never-given (Linked c l) h = omega arith
 fourteen-never-given (Refused (BadWords rank)) h = omega arith

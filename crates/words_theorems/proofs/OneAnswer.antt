@@ -19,10 +19,12 @@ use Rattle.words_theorems.specs.Terms.{IsLinked, linked-by}
 use Rattle.words_theorems.proofs.Cases.{call-linked, linked-as, linked-by-words}
 use Rattle.words_theorems.proofs.Refused.{every-link-answered, link-refused, linked-or-refused, refusal-changes-nothing}
 
+-- a theorem of stock words
 pub link-one-answer : {list text out : List ℕ} {r s : LinkAnswer} {a b : List ℕ} → Links list text out r a → Links list text out s b → (r ≡ s) × (a ≡ b)
 link-one-answer g h = wrote-once link-family (g .wrote) (h .wrote)
 
 -- Over the C interface, where the answer is told by five numbers in the caller's array, as well; they tell the answer (`same-answer`).
+-- a theorem of stock words
 pub link-array-once : {list text out a b array array₂ : List ℕ} → InArray (λ r. five-of (link-numbers r)) (λ r. Links list text out r a) array
     → InArray (λ r. five-of (link-numbers r)) (λ r. Links list text out r b) array₂ → (array ≡ array₂) × (a ≡ b)
 link-array-once g h =
@@ -30,6 +32,7 @@ link-array-once g h =
 
 -- The table leaves one answer too: a version that refuses where no row says so, links by other words, or tells other cells meets it only
 -- where it answers as LINK does.
+-- a theorem of stock words
 pub link-as-asked : {list text out : List ℕ} {r : LinkAnswer} {out′ : List ℕ} → Links list text out r out′ → AsAsked list text out (link-numbers r) out′
 link-as-asked {list} {text} {out} {r} {out′} call = go (linked-or-refused call)
   where
@@ -44,6 +47,7 @@ all-left {out} {told = told} {out′ = out′} x =
     sym (take-append-drop (told .length) out′)
     ∙ ap₂ _++_ (x .first) (x .untouched ∙ ap (λ k. drop k out) (ap (λ (v : Numbers). v .length) (x .numbers)))
 
+-- a theorem of stock words
 pub one-as-asked : {list text out : List ℕ} {m n : Numbers} {a b : List ℕ} → AsAsked list text out m a → AsAsked list text out n b → (m ≡ n) × (a ≡ b)
 one-as-asked {list} {text} {out} g h =
     let (r, left, call) = every-link-answered list text out in

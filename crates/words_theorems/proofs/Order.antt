@@ -48,6 +48,7 @@ module _ {list : List ℕ} (newer older : List Word) (w : Word) (has : HasWords 
   may = and-true (leb 1 (length (w .name))) (allowed tokenLimit (stock-token w)) (fine .named) .1
 
   -- "A name is not empty and makes an allowed token, `{%` name `}`: so it has 1 to 61 bytes."
+  -- a theorem of stock words
   pub name-length : (1 ≤ length (w .name)) × (length (w .name) ≤ 61)
   unfolding is-name
   name-length =
@@ -59,10 +60,12 @@ module _ {list : List ℕ} (newer older : List Word) (w : Word) (has : HasWords 
   word-reads = let text = acceptable-plan standard (w .text) (fine .reads) in record { short = text .short; reads = rw (text .plan-is) (text .reads) }
 
   -- "A word's linked plan is its text's plan linked by the words before it;"
+  -- a theorem of stock words
   pub word-stands-for : stands-for tokenLimit (newer ++ w ∷ older) (stock-token w) ≡ some (linked-by older (plan-of tokenLimit (w .text)))
   word-stands-for = stands-word standard newer older w (words-right has)
 
   -- words that stand later change nothing for it
+  -- a theorem of stock words
   pub later-words-change-nothing : stands-for tokenLimit (newer ++ w ∷ older) (stock-token w) ≡ stands-for tokenLimit (w ∷ older) (stock-token w)
   later-words-change-nothing = word-stands-for ∙ sym (stands-word standard [] older w up-to-it)
 
@@ -79,6 +82,7 @@ module _ {list : List ℕ} (newer older : List Word) (w : Word) (has : HasWords 
 
   -- the same of calls: `{%name}` linked by the whole list gets the answer and leaves the bytes that the word's own text gets and leaves
   -- when it is linked by a list of just the words before it
+  -- a theorem of stock words
   pub word-called : {before out : List ℕ} {r s : LinkAnswer} {a b : List ℕ} → HasWords before older
       → Links list (open-brace ∷ (stock-token w ++ close-brace ∷ [])) out r a → Links before (w .text) out s b → (r ≡ s) × (a ≡ b)
   word-called earlier call own =

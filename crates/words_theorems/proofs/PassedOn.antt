@@ -31,6 +31,7 @@ unreadable-fault {text} {f = f} (too-long long) e = subst (HasFault text) (let i
 unreadable-fault {text} {f = f} (bad-text short (faulty bad)) e = subst (HasFault text) (let is : _ ≡ f = cc in is) (rows-13-to-16 short bad)
 unreadable-fault (bad-text short (overfull before rest b split clean begins whole)) e = never cc
 
+-- a theorem of tokens' faults
 pub link-passes-on : {list text out out₂ : List ℕ} {c : ReadAnswer} {r : LinkAnswer} {out′ out₂′ : List ℕ} {ws : List Word} → ReadsOut text out₂ c out₂′
     → Links list text out r out′ → HasWords list ws → (f : TextFault) → (read-numbers c ≡ fault-numbers f) ↔ (link-numbers r ≡ fault-numbers f)
 link-passes-on read links has f = (

@@ -30,6 +30,7 @@ use Rattle.words_theorems.proofs.Lists.{not-both, one-rank, one-stock}
 use Rattle.words_theorems.proofs.Numbers.{refusal-over, same-refusal}
 
 -- every call is answered: it links its text, or is refused
+-- a theorem of stock words
 pub every-link-answered : (list text out : List ℕ) → (r : LinkAnswer) × (out′ : List ℕ) × Links list text out r out′
 every-link-answered list text out = let (r, out′, did) = written link-family (link-outcome standard list text) out in (r, out′, record { wrote = did })
 
@@ -91,10 +92,12 @@ module _ {list text out : List ℕ} {r : LinkAnswer} {out′ : List ℕ} (call :
 
   -- "The refusals: 26 exactly when, with its place; 17 exactly when." Each refusal exactly when its row of the table says, with that
   -- row's number and place;
+  -- a theorem of stock words
   pub link-refused : (x : LinkRefusal) → LinkRefuses list text out x ↔ (link-numbers r ≡ link-refusal-numbers x)
   link-refused x = (λ h. ap link-numbers (refused-so h), λ h. refused-why (same-refusal r x h))
 
   -- 26, with the least rank at fault, exactly when the list is not right;
+  -- a theorem of stock words
   pub badwords-exactly-when : (rank : ℕ) → BadList list rank ↔ (link-numbers r ≡ link-refusal-numbers (BadWords rank))
   badwords-exactly-when rank = (λ bad. link-refused (BadWords rank) .0 (row-26 bad), λ h. go (link-refused (BadWords rank) .1 h) refl)
     where
@@ -105,6 +108,7 @@ module _ {list text out : List ℕ} {r : LinkAnswer} {out′ : List ℕ} (call :
       go (row-18 has reads few short) e = never cc
 
   -- by the number alone: 26 exactly when the list is not right, and the place is the rank;
+  -- a theorem of stock words
   pub badwords-number : (link-numbers r .number ≡ BADWORDS) ↔ BadList list (link-numbers r .place)
   badwords-number =
       (to (link-case call), λ bad. ap (λ (a : LinkAnswer). link-numbers a .number) (refused-so (row-26 bad)))
@@ -117,6 +121,7 @@ module _ {list text out : List ℕ} {r : LinkAnswer} {out′ : List ℕ} (call :
       to (is-linked has reads few fits) e = absurd (omega arith)
 
   -- of a right list: a fault's number and place exactly when the text has that fault, however many cells it has,
+  -- a theorem of stock words
   pub fault-exactly-when : {ws : List Word} → HasWords list ws → (f : TextFault) → HasFault text f ↔ (link-numbers r ≡ fault-numbers f)
   fault-exactly-when has f = (λ bad. link-refused (Text f) .0 (rows-11-to-16 has bad), λ h. go (link-refused (Text f) .1 h) refl)
     where
@@ -127,6 +132,7 @@ module _ {list text out : List ℕ} {r : LinkAnswer} {out′ : List ℕ} (call :
       go (row-18 h y few short) e = never cc
 
   -- of a right list and a text that reads: 17, place 0, exactly when the linked plan has more than 4,096 cells,
+  -- a theorem of stock words
   pub overfull-exactly-when : {ws : List Word} {p : Plan ℕ} → HasWords list ws → HasPlan text p
       → (cellLimit < cells (linked-by ws p)) ↔ (link-numbers r ≡ link-refusal-numbers Overfull)
   overfull-exactly-when {ws} {p} has reads = (λ over. link-refused Overfull .0 (row-17 has reads over), λ h. go (link-refused Overfull .1 h) refl)
@@ -138,6 +144,7 @@ module _ {list text out : List ℕ} {r : LinkAnswer} {out′ : List ℕ} (call :
       go (row-18 h y few short) e = never cc
 
   -- 18, with the bytes needed, exactly when the linked plan fits its cells and its text not the output,
+  -- a theorem of stock words
   pub outshort-exactly-when : {ws : List Word} {p : Plan ℕ} → HasWords list ws → HasPlan text p
       → ((cells (linked-by ws p) ≤ cellLimit) × (length out < length (print (linked-by ws p))))
       ↔ (link-numbers r ≡ outshort-numbers (length (print (linked-by ws p))))
@@ -155,6 +162,7 @@ module _ {list text out : List ℕ} {r : LinkAnswer} {out′ : List ℕ} (call :
       go (row-18 h y few short) e = (omega (arith, same-cells has h reads y), omega (arith, same-length has h reads y))
 
   -- and READ exactly when no row says anything
+  -- a theorem of stock words
   pub linked-exactly-when : IsLinked (link-numbers r) ↔ ((x : LinkRefusal) → LinkRefuses list text out x → ⊥)
   linked-exactly-when = (
     λ h x row. omega (arith, refusal-over x, ap (λ (v : Numbers). v .number) (link-refused x .0 row)),
@@ -167,6 +175,7 @@ module _ {list text out : List ℕ} {r : LinkAnswer} {out′ : List ℕ} (call :
       go (inr (x, e)) none = absurd (none x (link-refused x .1 e))
 
   -- a refusal reports no steps, no cells and no length, and every byte of the output is as it was
+  -- a theorem of stock words
   pub refusal-changes-nothing : IsRefusal link-refusal-numbers (link-numbers r)
       → (link-numbers r .steps ≡ 0) × (link-numbers r .cells ≡ 0) × (link-numbers r .length ≡ 0) × (out′ ≡ out)
   refusal-changes-nothing h = go (link-case call) h

@@ -58,6 +58,7 @@ module _ {list text out : List ℕ} {r : LinkAnswer} {out′ : List ℕ} (call :
   accepted-again n room lent = rw (its .first) (linked-back has text-reads n (omega (arith, its-cells)) lent)
 
   -- "The linked text is acceptable, and saved and read again it is the same plan": with as many cells lent as it has, or more;
+  -- a theorem of stock words
   pub saved-reads : (n : ℕ) → link-numbers r .cells ≤ n → n ≤ cellLimit → Reads n (saved (link-numbers r) out′) (bare (linked-by ws p))
   saved-reads n room lent =
       record { within = lent; placed = placed 0 (linked-by ws p); accepted = accepted-again n room lent; same = bare-placed 0 (linked-by ws p) }
@@ -65,10 +66,12 @@ module _ {list text out : List ℕ} {r : LinkAnswer} {out′ : List ℕ} (call :
   with-the-most : Reads cellLimit (saved (link-numbers r) out′) (bare (linked-by ws p))
   with-the-most = saved-reads cellLimit (omega (arith, its-cells, its .few)) (omega arith)
 
+  -- a theorem of stock words
   pub saved-acceptable : acceptable standard (saved (link-numbers r) out′) ≡ true
   saved-acceptable = acceptable-reads (saved (link-numbers r) out′) .1 (_, with-the-most)
 
   -- and READ with an output that is long enough tells the cells and the length that LINK told
+  -- a theorem of stock words
   pub saved-read : {o : List ℕ} {s : ReadAnswer} {o′ : List ℕ} → ReadsOut (saved (link-numbers r) out′) o s o′ → link-numbers r .length ≤ length o
       → s ≡ Read (link-numbers r .cells) (link-numbers r .length)
   saved-read again room =
@@ -80,6 +83,7 @@ module _ {list text out : List ℕ} {r : LinkAnswer} {out′ : List ℕ} (call :
   reads-linked again = reads-one with-the-most again
 
   -- "A linked plan holds no token of a listed word at all, at any depth;"
+  -- a theorem of stock words
   pub holds-no-listed-token : {q : Bare} → Reads cellLimit (saved (link-numbers r) out′) q
       → (newer older : List Word) (w : Word) → ws ≡ newer ++ w ∷ older → holds (stock-token w) q ≡ false
   holds-no-listed-token again newer older w split =
@@ -88,17 +92,20 @@ module _ {list text out : List ℕ} {r : LinkAnswer} {out′ : List ℕ} (call :
 
   -- "every other token and every operator and block stays, in order": its pieces are those of the text's plan, in a row, except that each
   -- listed word's token gives way to the pieces of what it stands for
+  -- a theorem of stock words
   pub all-else-stays : {q : Bare} → Reads cellLimit (saved (link-numbers r) out′) q → pieces q ≡ bares (linked-pieces (stands-for tokenLimit ws) (pieces p))
   all-else-stays again =
       ap pieces (sym (reads-linked again)) ∙ pieces-relabel (λ l. tt {0}) (linked-by ws p) ∙ ap bares (pieces-link (stands-for tokenLimit ws) p)
 
   -- RUN of the linked text, with as many cells lent as it has, or more, is refused only for its output;
+  -- a theorem of stock words
   pub run-of-linked : {quota : ℕ} {memory o : List ℕ} {s : RunAnswer} {memory′ o′ : List ℕ} → Runs (saved (link-numbers r) out′) quota memory o s memory′ o′
       → link-numbers r .cells ≤ lent memory → lent memory ≤ cellLimit → run-numbers s .number ≢ OUTSHORT → Unrefused (run-numbers s)
   run-of-linked {memory = memory} run room within long-enough = read-unrefused run (saved-reads (lent memory) room within) long-enough
 
   -- "run in slots, demand 3 holds of it": cut into slots, the first reading the linked text and each other the text that the last one saved,
   -- it ends in the same text and answer number as in one run, and the steps add up to its steps;
+  -- a theorem of stock words
   pub slots-of-linked : {quota : ℕ} {quotas memory o : List ℕ} {s : RunAnswer} {memory′ o′ : List ℕ} {steps : ℕ} {last : RunAnswer} {left : List ℕ}
       → Runs (saved (link-numbers r) out′) (total quota quotas) memory o s memory′ o′ → link-numbers r .cells ≤ lent memory → lent memory ≤ cellLimit
       → run-numbers s .number ≢ OUTSHORT → Slots (length memory) (saved (link-numbers r) out′) quota quotas steps last left
@@ -106,6 +113,7 @@ module _ {list text out : List ℕ} {r : LinkAnswer} {out′ : List ℕ} (call :
   slots-of-linked run room within long-enough cut = slots-end-as-the-run run (run-of-linked run room within long-enough) cut
 
   -- and where it is DONE, more of quota, output and memory gives DONE, the same text and the same steps
+  -- a theorem of stock words
   pub more-for-linked : {quota quota₂ : ℕ} {memory memory₂ o o₂ : List ℕ} {s s₂ : RunAnswer} {memory′ memory₂′ o′ o₂′ : List ℕ}
       → Runs (saved (link-numbers r) out′) quota memory o s memory′ o′ → run-numbers s .number ≡ DONE → Runs (saved (link-numbers r) out′) quota₂ memory₂ o₂ s₂ memory₂′ o₂′
       → run-numbers s .steps ≤ quota₂ → length o ≤ length o₂ → length memory ≤ length memory₂ → lent memory₂ ≤ cellLimit

@@ -5,7 +5,7 @@ use mathlib.Core.Path.{sym, _∙_, ap}
 use lib.ListN.{length}
 use native.Mathlib.Omega.{arith}
 use borrow.Author.Needs.{needs}
-use Rattle.reader.specs.declared.InToken.the-variants.{Ends}
+use Rattle.tokens.specs.declared.InToken.the-variants.{Ends}
 use Rattle.reader.proofs.SurveySoFar.{SurveySoFar, survey-start, survey-small, survey-on, survey-stop, survey-end}
 use Rattle.reader.proofs.TokenSoFar.{TokenSoFar, inside-start, inside-further, inside-faulty, inside-ends, inside-close}
 use Rattle.reader.proofs.survey.Statement.{statement}

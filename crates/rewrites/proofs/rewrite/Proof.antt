@@ -1,6 +1,6 @@
 -- `rewrite`: the operator leaves the plan, then its rule is made.
 use borrow.Author.Needs.{needs}
-use Rattle.rewrites.proofs.Chained.{aside-two}
+use Rattle.splices.proofs.Chained.{aside-two}
 use Rattle.rewrites.proofs.Rewriting.{finds-a, finds-b, finds-c, finds-d, makes-a, makes-b, makes-c, makes-d, newer-lent, operator-lent}
 use Rattle.rewrites.proofs.rewrite.Statement.{statement}
 use Rattle.rewrites.proofs.rewrite.Tie as tie

@@ -1,6 +1,6 @@
 -- `rule_a`: the older block goes behind the contents of the newer one, which is then opened.
 use borrow.Author.Needs.{needs}
-use Rattle.rewrites.proofs.Chained.{aside-two, spliced-cell, spliced-close, spliced-lent, spliced-port}
+use Rattle.splices.proofs.Chained.{aside-two, spliced-cell, spliced-close, spliced-lent, spliced-port}
 use Rattle.rewrites.proofs.Turns.{newer-small, rule-a-holds, two-before, two-last, two-leaves, two-newer, two-older, two-small}
 use Rattle.rewrites.proofs.rule_a.Statement.{statement}
 use Rattle.rewrites.proofs.rule_a.Tie as tie

@@ -1,6 +1,6 @@
 -- `rule_b`: the older block goes before the contents of the newer one.
 use borrow.Author.Needs.{needs}
-use Rattle.rewrites.proofs.Chained.{port-low}
+use Rattle.splices.proofs.Chained.{port-low}
 use Rattle.rewrites.proofs.Turns.{newer-small, rule-b-holds, two-before, two-newer, two-older, two-small}
 use Rattle.rewrites.proofs.rule_b.Statement.{statement}
 use Rattle.rewrites.proofs.rule_b.Tie as tie

@@ -1,6 +1,6 @@
 -- `rule_c`: the copy goes behind the block.
 use borrow.Author.Needs.{needs}
-use Rattle.rewrites.proofs.Chained.{close-low}
+use Rattle.splices.proofs.Chained.{close-low}
 use Rattle.rewrites.proofs.Turns.{copied-after, copied-aside, copied-lent, copy-low, copy-small, one-copyable, one-small, rule-c-holds}
 use Rattle.rewrites.proofs.rule_c.Statement.{statement}
 use Rattle.rewrites.proofs.rule_c.Tie as tie

@@ -1,6 +1,6 @@
 -- `rule_d`: the block is cut out, and its cells are freed.
 use borrow.Author.Needs.{needs}
-use Rattle.rewrites.proofs.Chained.{aside-two, close-low}
+use Rattle.splices.proofs.Chained.{aside-two, close-low}
 use Rattle.rewrites.proofs.Turns.{drop-before, drop-leaves, drop-low, drop-small, rule-d-holds}
 use Rattle.rewrites.proofs.rule_d.Statement.{statement}
 use Rattle.rewrites.proofs.rule_d.Tie as tie

@@ -1,18 +1,15 @@
--- `run_cases`: every turn goes past a line, and the four buffers stay as long as they were.
-use mathlib.Core.Path.{_≡_}
-use Prim.Native.Nat.{_-_}
+-- `run_cases`: every turn goes past a line.
+use Prim.Native.Nat.{_-_, _≤_}
 use borrow.Author.Needs.{needs}
 use lib.ListN.{length}
 use Rattle.vectors.proofs.run_cases.Statement.{statement}
 use Rattle.vectors.proofs.run_cases.Tie as tie
 
 abbrev Inv-loop : tie.InvT-loop
-Inv-loop input text₀ memory₀ output₀ expected₀ report₀ at₀ text memory output expected report at =
-    (length text ≡ length text₀) × (length memory ≡ length memory₀) × (length output ≡ length output₀)
-    × (length expected ≡ length expected₀)
+Inv-loop lines room₀ memory₀ output₀ report₀ at₀ room memory output report at = at ≤ length lines
 
 abbrev μ-loop : tie.MeasureT-loop
-μ-loop input text₀ memory₀ output₀ expected₀ report₀ at₀ text memory output expected report at = length input - at
+μ-loop lines room₀ memory₀ output₀ report₀ at₀ room memory output report at = length lines - at
 
 new-requires : tie.Need-new-requires Inv-loop μ-loop
 new-requires c κs = search needs
@@ -44,18 +41,6 @@ loop-less c = search needs
 loop-again : tie.Need-loop-again Inv-loop μ-loop
 loop-again c = search needs
 
-same-length : tie.Need-same-length Inv-loop μ-loop
-same-length c = search needs
-
-same-length-2 : tie.Need-same-length-2 Inv-loop μ-loop
-same-length-2 c = search needs
-
-same-length-3 : tie.Need-same-length-3 Inv-loop μ-loop
-same-length-3 c = search needs
-
-same-length-4 : tie.Need-same-length-4 Inv-loop μ-loop
-same-length-4 c = search needs
-
 returns : tie.Need-returns Inv-loop μ-loop
 returns c = search needs
 
@@ -75,8 +60,4 @@ run-cases-spec =
     after-requires
     loop-less
     loop-again
-    same-length
-    same-length-2
-    same-length-3
-    same-length-4
     returns)

@@ -1,23 +1,29 @@
--- `begin_same`: the loop comes nearer to the last number to compare with each turn.
+-- `begin_same`: the place is within both lists.
 use Prim.Native.Nat.{_-_, _≤_}
 use borrow.Author.Needs.{needs}
 use Rattle.roll_cuts.proofs.cutting.begin_same.Statement.{statement}
 use Rattle.roll_cuts.proofs.cutting.begin_same.Tie as tie
 
 abbrev Inv-loop : tie.InvT-loop
-Inv-loop whole-list list count at₀ at = at ≤ count
+Inv-loop places list count at₀ at = at ≤ 160
 
 abbrev μ-loop : tie.MeasureT-loop
-μ-loop whole-list list count at₀ at = count - at
+μ-loop places list count at₀ at = 160 - at
 
 loop-holds : tie.Need-loop-holds Inv-loop μ-loop
 loop-holds c = search needs
 
-number-at-requires : tie.Need-number-at-requires Inv-loop μ-loop
-number-at-requires c κs = search needs
+mul-if1 : tie.Need-mul-if1 Inv-loop μ-loop
+mul-if1 c = search needs
 
-number-at-requires-2 : tie.Need-number-at-requires-2 Inv-loop μ-loop
-number-at-requires-2 c κs = search needs
+element-copy-out-if1 : tie.Need-element-copy-out-if1 Inv-loop μ-loop
+element-copy-out-if1 c = search needs
+
+mul-if1-2 : tie.Need-mul-if1-2 Inv-loop μ-loop
+mul-if1-2 c = search needs
+
+element-copy-out-if1-2 : tie.Need-element-copy-out-if1-2 Inv-loop μ-loop
+element-copy-out-if1-2 c = search needs
 
 returns : tie.Need-returns Inv-loop μ-loop
 returns c = search needs
@@ -41,8 +47,10 @@ begin-same-spec =
     Inv-loop
     μ-loop
     loop-holds
-    number-at-requires
-    number-at-requires-2
+    mul-if1
+    element-copy-out-if1
+    mul-if1-2
+    element-copy-out-if1-2
     returns
     add-at
     loop-less

@@ -23,9 +23,6 @@ digit-requires c κs = search needs
 mul-value : tie.Need-mul-value Inv-loop μ-loop
 mul-value c = search needs
 
-wide-requires : tie.Need-wide-requires Inv-loop μ-loop
-wide-requires c κs = search needs
-
 add-value : tie.Need-add-value Inv-loop μ-loop
 add-value c = search needs
 
@@ -60,7 +57,6 @@ number-spec =
     shared-slice-read-digit
     digit-requires
     mul-value
-    wide-requires
     add-value
     add-at
     loop-less

@@ -18,17 +18,17 @@ loop-holds c = search needs
 pair-at-requires : tie.Need-pair-at-requires Inv-loop μ-loop
 pair-at-requires c κs = search needs
 
-enum-known-byte : tie.Need-enum-known-byte Inv-loop μ-loop
-enum-known-byte c = search needs
-
-enum-told : tie.Need-enum-told Inv-loop μ-loop
-enum-told c = search needs
+cast-room : tie.Need-cast-room Inv-loop μ-loop
+cast-room c = search needs
 
 slice-write-room : tie.Need-slice-write-room Inv-loop μ-loop
 slice-write-room c = search needs
 
 add-put : tie.Need-add-put Inv-loop μ-loop
 add-put c = search needs
+
+wrapping-add-usize-requires : tie.Need-wrapping-add-usize-requires Inv-loop μ-loop
+wrapping-add-usize-requires c κs = search needs
 
 loop-less : tie.Need-loop-less Inv-loop μ-loop
 loop-less c = search needs
@@ -53,10 +53,10 @@ put-pattern-spec =
     μ-loop
     loop-holds
     pair-at-requires
-    enum-known-byte
-    enum-told
+    cast-room
     slice-write-room
     add-put
+    wrapping-add-usize-requires
     loop-less
     loop-again
     past-field-requires

@@ -1,9 +1,0 @@
-/* Links by the longest lists, doubling and chained, on a thread with a 256 KiB stack, and says whether all was as expected. */
-#ifndef LINK_SMALL_STACK_H
-#define LINK_SMALL_STACK_H
-
-#include <stdbool.h>
-
-bool links_on_small_stack(void);
-
-#endif
