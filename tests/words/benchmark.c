@@ -164,9 +164,9 @@ static size_t used_rank(const struct linker *linker, const uint8_t *token, size_
     return token[1] == '%' ? rank_of(linker, token + 2, *width - 3) : linker->count;
 }
 
-/* Adds up what a surveyed text is linked to, where the words that it uses have been weighed; false where it uses one of this
+/* Adds up what a surveyed text is linked to, where the words that it uses have been measured; false where it uses one of this
    rank or a larger one, the least of which is then told. */
-static bool weigh(const struct linker *linker, const uint8_t *text, size_t text_length, size_t rank, struct word *sum,
+static bool measure(const struct linker *linker, const uint8_t *text, size_t text_length, size_t rank, struct word *sum,
                   size_t *fault)
 {
     size_t width, least = linker->count;
@@ -188,7 +188,7 @@ static bool weigh(const struct linker *linker, const uint8_t *text, size_t text_
     return least == linker->count;
 }
 
-/* Takes and weighs all words; false where the list is refused, at the least rank at fault. */
+/* Takes and measures all words; false where the list is refused, at the least rank at fault. */
 static bool take_words(struct linker *linker, const uint8_t *list, size_t list_length, size_t *fault)
 {
     size_t at = 4, count = list_length < 4 ? 0 : number_at(list), used;
@@ -204,7 +204,7 @@ static bool take_words(struct linker *linker, const uint8_t *list, size_t list_l
         *fault = linker->count;
     for (size_t rank = 0; rank < linker->count; rank++) {
         struct word *word = &linker->words[rank];
-        if (!weigh(linker, word->text.start, word->text.length, rank, word, &used)) {
+        if (!measure(linker, word->text.start, word->text.length, rank, word, &used)) {
             *fault = used < *fault ? used : *fault;
             refused = true;
         }
@@ -264,7 +264,7 @@ static void link_plainly(struct linker *linker, const uint8_t *list, size_t list
         put_answer(answer, survey.number, 0, 0, 0, survey.place);
         return;
     }
-    weigh(linker, text, text_length, linker->count, &whole, &fault);
+    measure(linker, text, text_length, linker->count, &whole, &fault);
     if (whole.cells > MOST_CELLS) {
         put_answer(answer, TURNIP_OVERFULL, 0, 0, 0, 0);
     } else if (whole.length > out_length) {
