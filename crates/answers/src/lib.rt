@@ -1,5 +1,7 @@
 // What RUN answers, and its five numbers; a run cut into slots; the worked plans and tokens. The definitions in specs/ speak of the types
 // here, so that a promise is one equation.
+#![tactic(auto)]
+
 ghost use Rattle.std.specs.Prelude.{◌≡◌};
 ghost use Rattle.answers.specs.Run.{ending_number, run_numbers, run_refusal_numbers};
 
@@ -8,7 +10,7 @@ use plan::Unread;
 use rules::Ending;
 
 // Why a call of RUN is refused.
-#[derive(Drop)]
+#[derive(Clone, Copy)]
 pub enum RunRefusal {
     BadArena,
     NotRead(Unread),
@@ -17,7 +19,7 @@ pub enum RunRefusal {
 }
 
 // What RUN answers. A refusal carries no steps, no cells and no length: it has none.
-#[derive(Drop)]
+#[derive(Clone, Copy)]
 pub enum RunAnswer {
     Ran {
         ending: Ending,

@@ -1,5 +1,7 @@
 // The walks over one block: one counts its cells, one frees them, and one finds its last port. The links join the ports of a block in one
 // chain, from its start to its own close. So each walk is one loop along the links, and what stands around the block does not matter.
+#![tactic(auto)]
+
 ghost use Rattle.std.specs.Prelude.{◌≡◌, ℕ};
 ghost use Rattle.plan.specs.Plan.{Plan, cells};
 ghost use Rattle.memory.specs.Held.{BlockIn, HeldIn};

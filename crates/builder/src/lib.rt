@@ -1,6 +1,8 @@
 // The steps that put a plan into the memory: all cells free, a piece put behind the last, a block begun beside the plan, the end. A step
 // that puts an item writes the first free cell and links the tail of the chain on to it. The memory's specs/Model.antt says on plain values
 // what each step does, and the step here does exactly that.
+#![tactic(auto)]
+
 ghost use Rattle.std.specs.Prelude.{◌≡◌, ◌*◌, ◌<◌, set};
 ghost use Rattle.kinds.specs.Limits.{cell_numbers};
 ghost use Rattle.pieces.specs.Numbered.{operator_number};

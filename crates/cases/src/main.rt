@@ -4,6 +4,8 @@
 // A line of the input is `label | text | cells | quota`, or a heading. It is written as it is, except a long text, which is told by its
 // length; then come the five numbers of the answer, the printed text, and whether every number of the memory is 0 and every byte of the
 // output past that text as it was.
+#![tactic(auto)]
+
 ghost use Rattle.std.specs.Prelude.{◌≤◌, length};
 
 use answers::of_run;

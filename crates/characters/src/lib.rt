@@ -1,4 +1,6 @@
 // The character of UTF-8 that stands at a place, and which characters a token may hold.
+#![tactic(auto)]
+
 ghost use Rattle.std.specs.Prelude.{◌≡◌, drop};
 ghost use Rattle.plan.specs.Token.{character, may_hold, value, well_formed};
 ghost use Rattle.characters.specs.Continued.{continued, Room};
@@ -6,7 +8,7 @@ ghost use Rattle.characters.specs.Continued.{continued, Room};
 use plan::Character;
 
 // The value of a character once the bytes that follow its first have been taken, if they are there.
-#[derive(Drop)]
+#[derive(Clone, Copy)]
 enum Continued {
     Value(u32),
     Missing,

@@ -1,5 +1,7 @@
 // Copies a block of a plan in the memory into free cells, beside the plan. No port links to the copy yet. The ports of the block's contents
 // stand in one chain, and for each of them the builder puts its like. There is no recursion, and nothing is kept beside the copy.
+#![tactic(auto)]
+
 ghost use Rattle.std.specs.Prelude.{◌≡◌, ℕ};
 ghost use Rattle.plan.specs.Plan.{Plan};
 ghost use Rattle.memory.specs.Model.{Aside, Stepped, model};
@@ -10,7 +12,7 @@ use kinds::Cell;
 use memory::{Build, Held, Port, link_of, piece_at, set_link};
 
 // The plan as it is held with the copy beside it, and the cell of the copy.
-#[derive(Drop)]
+#[derive(Clone, Copy)]
 pub struct Copied {
     pub held: Held,
     pub copy: Cell,

@@ -1,5 +1,7 @@
 // One turn of a run of a plan in the memory, and the whole run: DONE, FULL and QUOTA asked in the definition's order. Each turn makes one
 // rewrite of the definition. The run goes on until no operator is ready, the next plan finds no room, or the quota is used up.
+#![tactic(auto)]
+
 ghost use Rattle.std.specs.Prelude.{◌≡◌, ℕ};
 ghost use Rattle.rules.specs.Frames.{Frame, plug};
 ghost use Rattle.plan.specs.Plan.{Plan, cells};
@@ -15,14 +17,14 @@ use rewrites::rewrite;
 use rules::Ending;
 
 // One turn of a run: it stops, or it goes on with the next plan, which has so many cells.
-#[derive(Drop)]
+#[derive(Clone, Copy)]
 pub enum Turn {
     Stopped(Ending),
     Went { held: Held, size: u32 },
 }
 
 // How a run ended, the rewrites it made, and the plan as it is held then, with its cells.
-#[derive(Drop)]
+#[derive(Clone, Copy)]
 pub struct Ended {
     pub ending: Ending,
     pub steps: u32,

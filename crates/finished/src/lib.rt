@@ -1,6 +1,8 @@
 // Whether the plan of an accepted text has no ready operator, told by the text alone in one pass, without lent memory and without
 // recursion. An operator is ready where as many blocks come right before it as it takes. One bit says whether a block came right behind
 // another, and is kept while the block is open. So nothing is looked for twice, however deep the plan is nested.
+#![tactic(auto)]
+
 ghost use Rattle.std.specs.Prelude.{◌≡◌, ℕ};
 ghost use Rattle.kinds.specs.Limits.{token_limit};
 ghost use Rattle.plan.specs.Plan.{Plan};

@@ -1,6 +1,8 @@
 // Finds the next ready operator of a plan in the memory, in document 01's order, from a given sequence on. That order looks into the
 // sequences as their `[` come, and in each for its leftmost ready operator. So one loop goes along the chain over the ports where a block
 // opens. One scan goes over a sequence's own items, and passes the inside of each block by its close. There is no recursion and no stack.
+#![tactic(auto)]
+
 ghost use Rattle.std.specs.Prelude.{ℕ};
 ghost use Rattle.plan.specs.Plan.{Plan};
 ghost use Rattle.memory.specs.Held.{HeldIn, held_numbers};

@@ -1,11 +1,13 @@
 // Reads standard input, so that an error is never taken for its end. What stood before a read that failed is not the input.
+#![tactic(auto)]
+
 ghost use Rattle.std.specs.Prelude.{length};
 ghost use Rattle.input.specs.Within.{Within};
 
 use libc::{EINTR, STDIN_FILENO};
 
 // How many bytes of the input stand in the buffer. Where they do not fill it, they are all of the input. Or a read failed.
-#[derive(Drop)]
+#[derive(Clone, Copy)]
 pub enum Input {
     Read(usize),
     Failed,

@@ -1,6 +1,8 @@
 // The one walk over an accepted text, piece by piece, past its marks; and writing the text without them. Marks (SP, LF and annotations)
 // mean nothing. All code that goes over an accepted text uses this walk, so its marks are passed over here and nowhere else. The walk looks
 // for no fault, since there is none.
+#![tactic(auto)]
+
 ghost use Rattle.std.specs.Prelude.{◌≡◌, ℕ, suc, ◌+◌, ◌<◌, List, length, drop};
 ghost use Rattle.kinds.specs.Limits.{text_limit, token_limit};
 ghost use Rattle.plan.specs.Pieces.{Found, Piece as PlanPiece, Shows};
@@ -16,13 +18,13 @@ mod tidy;
 pub use tidy::put_tidied;
 
 // Where a walk stands in the text.
-#[derive(Drop)]
+#[derive(Clone, Copy)]
 pub struct Cursor {
     pub at: usize,
 }
 
 // The next piece with the place of its first byte, and the walk behind it.
-#[derive(Drop)]
+#[derive(Clone, Copy)]
 pub enum NextPiece {
     End,
     Piece {

@@ -1,18 +1,20 @@
 // `Place`, `Cell` and `Token`: the kinds of number that must not be mixed up, each with its limit, written once; also bytes put into an
 // output, and laws of tests.
+#![tactic(auto)]
+
 ghost use Rattle.std.specs.Prelude.{◌≡◌, ◌≤◌};
 ghost use Rattle.kinds.specs.Limits.{token_limit, cell_limit, cell_numbers, text_limit};
 
 // The place of a byte in a text, or the place just past its last byte.
-#[derive(Drop)]
+#[derive(Clone, Copy)]
 pub struct Place(pub u32);
 
 // The number of a cell of the work memory.
-#[derive(Drop)]
+#[derive(Clone, Copy)]
 pub struct Cell(pub u32);
 
 // A token in a text: the place of its `{` and its bytes, both braces among them.
-#[derive(Drop)]
+#[derive(Clone, Copy)]
 pub struct Token {
     pub at: Place,
     pub len: u32,

@@ -1,5 +1,6 @@
 // What a caller lends to a service, filled with other values before the call and looked over after it. With these a program says of each
 // call whether every number of the memory is 0, and whether every byte past the printed text is as it was.
+#![tactic(auto)]
 
 // What a memory is filled with. Any number but 0 would do.
 const NUMBER: u32 = 0xABAB_ABAB;

@@ -1,20 +1,20 @@
 // Numbers in decimal, and bytes in hex. What is not made of digits alone, or does not fit, is none.
 ghost use Rattle.std.specs.Prelude.{◌≤◌, length};
 
-#[derive(Drop)]
+#[derive(Clone, Copy)]
 pub enum Number {
     Value(u32),
     None,
 }
 
 // How many bytes were put, and whether all could be.
-#[derive(Drop)]
+#[derive(Clone, Copy)]
 pub struct Put {
     pub bytes: usize,
     pub all: bool,
 }
 
-#[derive(Drop)]
+#[derive(Clone, Copy)]
 enum Byte {
     Value(u8),
     None,

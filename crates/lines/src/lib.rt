@@ -1,5 +1,7 @@
 // Lines of cases, as a person writes them: standard input read whole, the fields of a line, numbers in decimal, bytes in hex, and what was
 // answered to a case. A case has four fields parted by ` | `, and the last is a number.
+#![tactic(auto)]
+
 mod answer;
 mod digits;
 mod parts;

@@ -4,14 +4,14 @@ ghost use Rattle.std.specs.Prelude.{◌+◌, ◌≤◌, min, length};
 use check::same;
 
 // Where a sign begins, and the place behind it. Where there is none, both are the end of the text.
-#[derive(Drop)]
+#[derive(Clone, Copy)]
 pub struct Sign {
     pub at: usize,
     pub past: usize,
 }
 
 // Where the second and the third field of a line begin and end, and where the fourth begins; it goes to the end of the line.
-#[derive(Drop)]
+#[derive(Clone, Copy)]
 pub struct Fields {
     pub second: usize,
     pub second_end: usize,

@@ -1,4 +1,6 @@
 // Builds the plan of an accepted text in the memory. The walk over the text gives piece after piece, and each is put behind the last.
+#![tactic(auto)]
+
 ghost use Rattle.std.specs.Prelude.{◌≡◌, ℕ, ◌≤◌, length};
 ghost use Rattle.kinds.specs.Limits.{text_limit, token_limit};
 ghost use Rattle.plan.specs.Plan.{Plan};

@@ -1,6 +1,8 @@
 // The work memory, a plan in lent numbers, four for each cell: what it means that the memory holds a plan, and its laws; links, printing
 // along the chain, clearing. specs/Memory.antt says what a number means. A link is read and stored as the `Port` that it leads to or as the
 // `Cell` that it keeps, and a token as a `Token` with its `Place` in the text.
+#![tactic(auto)]
+
 ghost use Rattle.std.specs.Prelude.{◌≡◌, ℕ, ◌+◌, ◌*◌, ◌/◌, ◌%◌, ◌<◌, ◌≤◌, eqb, length, set};
 ghost use Rattle.kinds.specs.Limits.{cell_limit, cell_numbers};
 ghost use Rattle.plan.specs.Outcomes.{cleared};
@@ -17,7 +19,7 @@ mod print;
 pub use print::{piece_at, print_into, printed_length};
 
 // A port of a cell: its start, or its close.
-#[derive(Drop)]
+#[derive(Clone, Copy)]
 pub struct Port(pub u32);
 
 impl Port {
@@ -49,7 +51,7 @@ impl Port {
 }
 
 // What a cell is.
-#[derive(Drop)]
+#[derive(Clone, Copy)]
 pub enum Kind {
     Operator(Operator),
     Token,
@@ -81,7 +83,7 @@ impl Kind {
 
 // A plan that is being built: the cell that is not lent, whose inside is the outermost sequence; the first port of that sequence; the last
 // port so far; the innermost open block; the first free cell.
-#[derive(Drop)]
+#[derive(Clone, Copy)]
 pub struct Build {
     pub outer: Cell,
     pub first: Port,
@@ -91,7 +93,7 @@ pub struct Build {
 }
 
 // A plan in the memory: the cell that is not lent, the first port of the outermost sequence, the first free cell.
-#[derive(Drop)]
+#[derive(Clone, Copy)]
 pub struct Held {
     pub outer: Cell,
     pub first: Port,

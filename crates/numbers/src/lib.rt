@@ -1,10 +1,12 @@
 // The five numbers of an answer: READ's own, and those that are the same for every service that reads a text.
+#![tactic(auto)]
+
 ghost use Rattle.std.specs.Prelude.{◌≡◌};
 ghost use Rattle.numbers.specs.Numbers.{token_fault_number, fault_number, fault_place, refused_numbers, fault_numbers, unread_numbers, outshort_numbers, given_numbers, read_refusal_numbers, read_numbers};
 
 use plan::{ReadAnswer, ReadRefusal, TextFault, TokenFault, Unread};
 
-#[derive(Drop)]
+#[derive(Clone, Copy)]
 pub struct Numbers {
     pub number: u32,
     pub steps: u32,

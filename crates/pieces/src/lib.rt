@@ -1,6 +1,8 @@
 // The pieces of a plan as the code hands them about (an operator, a token, `[`, `]`), and writing one to an output; the numbers by which
 // the code keeps operators and classes of bytes. A walk over a text gives pieces, and the chain of the work memory shows pieces. A token's
 // bytes stay in the text.
+#![tactic(auto)]
+
 ghost use Rattle.std.specs.Prelude.{◌≡◌, ◌+◌, ◌≤◌, length, take, drop};
 ghost use Rattle.kinds.specs.Written.{put_at};
 ghost use Rattle.pieces.specs.Written.{piece_length, piece_bytes, InText};
@@ -12,7 +14,7 @@ mod numbering;
 
 pub use numbering::{class_of_number, letter, operator_number, operator_of};
 
-#[derive(Drop)]
+#[derive(Clone, Copy)]
 pub enum Piece {
     Operator(Operator),
     Token(Token),

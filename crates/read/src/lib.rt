@@ -1,6 +1,8 @@
 // READ, and the one way in to the reader for every service: what is wrong with a text, whether it is accepted, and whether it is
 // acceptable. Request 4 made READ of document 01's first two services. All functions are public and ask nothing of their callers. They
 // stand on the text alone: no memory is lent.
+#![tactic(auto)]
+
 ghost use Rattle.std.specs.Prelude.{◌≡◌};
 ghost use Rattle.kinds.specs.Limits.{cell_limit, standard};
 ghost use Rattle.plan.specs.Read.{acceptable};
@@ -15,7 +17,7 @@ use plan::{ReadAnswer, ReadRefusal, TextFault, Unread};
 use reader::{Surveyed, survey};
 
 // Whether a text is accepted, with its cells and its printed bytes; or why it is not read.
-#[derive(Drop)]
+#[derive(Clone, Copy)]
 pub enum ToldAcceptance {
     Accepted { cells: u32, length: u32 },
     NotRead(Unread),

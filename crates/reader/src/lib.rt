@@ -2,6 +2,8 @@
 // memory. An outer loop goes over the items, and an inner loop over the bytes of a token. The first fault leaves both by a label. A token
 // without a fault is an item, unless it is an annotation, which counts for nothing. The reader goes on counting when there is no more room
 // for cells, because a fault later in the text outranks a plan that is too large. The caller decides whether the plan is too large.
+#![tactic(auto)]
+
 ghost use Rattle.std.specs.Prelude.{◌≡◌, ◌+◌, ◌-◌, ◌<◌, ◌≤◌, length, get_or, drop};
 ghost use Rattle.kinds.specs.Limits.{text_limit, token_limit};
 ghost use Rattle.plan.specs.Reading.{class, mark, read_bytes};
@@ -16,7 +18,7 @@ use tokens::{InToken, TokenRead, token_byte};
 
 // What was counted so far: blocks open, items begun, bytes that will be printed, and the place of the first item past
 // the room, once there is one.
-#[derive(Drop)]
+#[derive(Clone, Copy)]
 pub struct Count {
     pub depth: u32,
     pub cells: u32,
@@ -25,7 +27,7 @@ pub struct Count {
 }
 
 // What one byte outside tokens does.
-#[derive(Drop)]
+#[derive(Clone, Copy)]
 pub enum ByteStep {
     On(Count),
     Token,
@@ -33,7 +35,7 @@ pub enum ByteStep {
 }
 
 // What a text is found to be.
-#[derive(Drop)]
+#[derive(Clone, Copy)]
 pub enum Surveyed {
     // No fault: its cells, its printed bytes, and where the first item past the room begins, once there is one.
     Counted {

@@ -1,4 +1,6 @@
 // Whether the item at a port is a ready operator, whether a block opens at a port, and where an item ends. The hunt asks these port by port.
+#![tactic(auto)]
+
 ghost use Rattle.std.specs.Prelude.{◌≡◌, ◌/◌, ◌≤◌};
 ghost use Rattle.kinds.specs.Limits.{cell_limit};
 ghost use Rattle.memory.specs.Memory.{start, whole};
@@ -12,7 +14,7 @@ use rules::takes;
 
 // A ready operator: which one it is, the port that links to the first of its blocks, its blocks and itself. The operators c and
 // d have the newer block alone.
-#[derive(Drop)]
+#[derive(Clone, Copy)]
 pub struct Spot {
     pub which: Operator,
     pub before: Port,
@@ -21,7 +23,7 @@ pub struct Spot {
     pub operator: Cell,
 }
 
-#[derive(Drop)]
+#[derive(Clone, Copy)]
 pub enum Hunted {
     Nothing,
     Ready(Spot),

@@ -1,6 +1,8 @@
 // Makes the rewrite of a ready operator in the memory: links move, c copies, d frees. The operator leaves the chain first. Then a moves the
 // older block to the end of the newer one and opens that, b moves the older block to the front of the newer one, c copies, d drops. Except
 // for the copy of c, only links move. A cell that leaves the plan is free at once.
+#![tactic(auto)]
+
 ghost use Rattle.std.specs.Prelude.{◌≡◌};
 ghost use Rattle.memory.specs.Model.{Aside};
 ghost use Rattle.rewrites.specs.Rules.{DropBlock, OneBlock, Rewritable, RewriteMade, RuleA, RuleB, RuleC, RuleD, TwoBlocks};

@@ -1,5 +1,7 @@
 // Adds a FILED or a DONE to a roll: weighs the entry, writes it at the end where there is room, and counts it in the tally lent. Both
 // services are public and ask nothing of their callers.
+#![tactic(auto)]
+
 ghost use Rattle.std.specs.Prelude.{◌≡◌, ◌+◌, ◌≤◌, min, length};
 ghost use Rattle.roll_rules.specs.Answers.{add, close_job, edition_1, file, grown, in_use};
 ghost use Rattle.roll_format.specs.Format.{longest, parts_of};
@@ -16,7 +18,7 @@ use stored::LARGEST;
 
 // Whether an entry may be added where there is room. If so, what the roll comes to, and whether the
 // entry counts as a job filed or as a job done.
-#[derive(Drop)]
+#[derive(Clone, Copy)]
 pub enum Admission {
     Refused(RollRefusal),
     Fine { sums: Sums, filed: bool, done: bool },
@@ -77,7 +79,7 @@ fn capped(bytes: usize) -> u32
 }
 
 // What adding answers, and whether the tally's two counts grow by it.
-#[derive(Drop)]
+#[derive(Clone, Copy)]
 pub struct Entered {
     pub answer: RollAnswer,
     pub filed: bool,

@@ -11,6 +11,8 @@
 // What is wrong is pointed out by a fault's number and a place: 1 an entry was not added as expected, 2 a front reads as something else,
 // or has an entry at another place, 3 it does not take a new entry as expected, 4 a byte before or behind that is changed, 5 it then reads as
 // something else. The cuts that are right are to be as many as the bytes of the roll, since no bytes are a roll too.
+#![tactic(auto)]
+
 mod cutting;
 mod entering;
 

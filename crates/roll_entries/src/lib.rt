@@ -1,4 +1,6 @@
 // The entry at a place of a roll: what it is and where the next one would stand, or that it is torn.
+#![tactic(auto)]
+
 ghost use Rattle.std.specs.Prelude.{◌≡◌, ◌≤◌, length, drop};
 ghost use Rattle.roll_format.specs.Format.{sections};
 ghost use Rattle.roll_entries.specs.Entries.{done_at, entry_at, filed_at, next_told, other_at, sections_end_told};
@@ -8,7 +10,7 @@ use stored::{
     CountedAt, NUMBER, NumberAt, Span, TwoCountedAt, counted_at, number_at, two_counted_at,
 };
 
-#[derive(Drop)]
+#[derive(Clone, Copy)]
 pub enum EntryAt {
     Torn,
     // Where its job number and its text stand. A DONE has no text, so its text is the span of no bytes.
@@ -24,7 +26,7 @@ pub enum EntryAt {
 }
 
 // Where sections end.
-#[derive(Drop)]
+#[derive(Clone, Copy)]
 pub enum SectionsEnd {
     Torn,
     At(usize),

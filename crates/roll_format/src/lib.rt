@@ -1,5 +1,7 @@
 // How a roll is kept in bytes: its entries one behind the other, what each says, and the bytes of a new one. Nothing here asks whether an
 // entry is right.
+#![tactic(auto)]
+
 use stored::LARGEST;
 
 // No roll and no buffer is longer.
@@ -9,7 +11,7 @@ pub const LONGEST: usize = LARGEST as usize;
 pub const FIRST: u8 = 1;
 
 // What an entry is.
-#[derive(Drop)]
+#[derive(Clone, Copy)]
 pub enum EntryKind {
     Filed,
     Done,

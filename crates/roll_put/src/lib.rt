@@ -1,4 +1,6 @@
 // The bytes that a new entry takes at the end of a roll: how many they are, and writing them.
+#![tactic(auto)]
+
 ghost use Rattle.std.specs.Prelude.{◌≡◌, [], ◌+◌, ◌≤◌, ◌<◌, length};
 ghost use Rattle.kinds.specs.Written.{put_at};
 ghost use Rattle.roll_rules.specs.Answers.{edition_1, new_bytes};

@@ -1,5 +1,7 @@
 // Reads a roll of filed jobs: tells whether its entries read, where they stand and what they add up to; and tells one entry by itself. Both
 // services are public and ask nothing of their callers.
+#![tactic(auto)]
+
 ghost use Rattle.std.specs.Prelude.{◌≡◌, List, ◌≤◌, length, drop};
 ghost use Rattle.std.proofs.Math.Option.{some};
 ghost use Rattle.kinds.specs.Limits.{standard};
@@ -16,7 +18,7 @@ use roll_rules::{EntryAnswer, RollAnswer, RollRefusal, Sums};
 use roll_weigh::{Weighed, weigh};
 use stored::part;
 
-#[derive(Drop)]
+#[derive(Clone, Copy)]
 pub enum JudgedEntry {
     Torn,
     Broken,

@@ -1,5 +1,7 @@
 // What the roll means: what is wrong with an entry, the tally, the answers and their types. The definitions in specs/
 // speak of the types here, so that a promise is one equation.
+#![tactic(auto)]
+
 ghost use Rattle.std.specs.Prelude.{◌≡◌, ◌<◌};
 ghost use Rattle.stored.specs.Counted.{largest};
 ghost use Rattle.roll_rules.specs.Answers.{entry_number, grown, roll_numbers, roll_refusal_number, roll_refusal_place};
@@ -14,7 +16,7 @@ pub const JOB_LIMIT: usize = 10;
 const LISTED: u32 = 3;
 
 // Why a call over a roll is refused, with the place that goes with it.
-#[derive(Drop)]
+#[derive(Clone, Copy)]
 pub enum RollRefusal {
     TooLong,
     BadRoll(u32),
@@ -30,7 +32,7 @@ pub enum RollRefusal {
 }
 
 // What the entries of a roll come to: how many they are, the jobs filed and the jobs done by them, and where they end.
-#[derive(Drop)]
+#[derive(Clone, Copy)]
 pub struct Sums {
     pub entries: u32,
     pub filed: u32,
@@ -39,14 +41,14 @@ pub struct Sums {
 }
 
 // What reading a roll and adding to it answer. A refusal counts nothing.
-#[derive(Drop)]
+#[derive(Clone, Copy)]
 pub enum RollAnswer {
     Listed(Sums),
     Refused(RollRefusal),
 }
 
 // The five numbers of an answer about a roll.
-#[derive(Drop)]
+#[derive(Clone, Copy)]
 pub struct RollNumbers {
     pub number: u32,
     pub entries: u32,
@@ -56,7 +58,7 @@ pub struct RollNumbers {
 }
 
 // What asking for one entry answers: where its job number and its text stand in the roll, and their bytes.
-#[derive(Drop)]
+#[derive(Clone, Copy)]
 pub enum EntryAnswer {
     TooLong,
     NoEntry,
@@ -69,7 +71,7 @@ pub enum EntryAnswer {
 }
 
 // A running tally: jobs filed and jobs done.
-#[derive(Drop)]
+#[derive(Clone, Copy)]
 pub struct Tally {
     pub filed: u32,
     pub done: u32,

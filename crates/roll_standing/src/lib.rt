@@ -1,4 +1,6 @@
 // What a job number and a printed text must be, and how a job stands in a roll: not filed, filed or done.
+#![tactic(auto)]
+
 ghost use Rattle.std.specs.Prelude.{◌≡◌, ◌≤◌, length};
 ghost use Rattle.kinds.specs.Limits.{standard};
 ghost use Rattle.stored.specs.Same.{same};
@@ -55,7 +57,7 @@ pub fn is_printed(text: &[u8]) -> bool
 }
 
 // How a job stands: not filed; filed last by the entry at a place, with its text; or done by the entry at a place.
-#[derive(Drop)]
+#[derive(Clone, Copy)]
 pub enum StandingAt {
     Unfiled,
     Filed { at: usize, text: Span },

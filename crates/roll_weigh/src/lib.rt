@@ -1,5 +1,7 @@
 // What is wrong with an entry that follows those of a roll, or else what it adds to the tally. One answer serves both services: reading
 // refuses a roll by it, and adding tells it.
+#![tactic(auto)]
+
 ghost use Rattle.std.specs.Prelude.{◌≡◌, ℕ};
 ghost use Rattle.roll_format.specs.Format.{parts_of};
 ghost use Rattle.roll_rules.specs.EntriesBefore.{Behind, HasEntriesBefore};
@@ -11,7 +13,7 @@ use roll_rules::RollRefusal;
 use roll_standing::{StandingAt, is_job, is_printed, look_back};
 use stored::part;
 
-#[derive(Drop)]
+#[derive(Clone, Copy)]
 pub enum Weighed {
     // Whether it counts as a job filed, or done.
     Fine { filed: bool, done: bool },

@@ -1,12 +1,14 @@
 // What rewriting is: the four rewrites, their order, runs, and the laws of these. specs/ has the definitions. The code says how a run ends,
 // and how many blocks an operator takes.
+#![tactic(auto)]
+
 ghost use Rattle.std.specs.Prelude.{◌≡◌};
 ghost use Rattle.rules.specs.Leftmost.{takes};
 
 use plan::Operator;
 
 // How an unrefused run ends.
-#[derive(Drop)]
+#[derive(Clone, Copy)]
 pub enum Ending {
     Done,
     Quota,

@@ -1,6 +1,8 @@
 // RUN, the service of document 01: it builds the plan of an accepted text in the memory, rewrites it there and prints it from there. It is
 // public and asks nothing of its caller, and its contract says for every input what the call answers and leaves (specs/Calls.antt). At the
 // end of every call, whatever its answer, all numbers lent are 0.
+#![tactic(auto)]
+
 ghost use Rattle.std.specs.Prelude.{◌≡◌, length};
 ghost use Rattle.kinds.specs.Limits.{token_limit, standard};
 ghost use Rattle.plan.specs.Outcomes.{Wrote};

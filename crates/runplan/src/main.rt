@@ -1,6 +1,8 @@
 // The program behind `./runplan`: it reads a plan from standard input, runs it, and writes what is left of it and the five numbers of the
 // answer. The quota is 10,000, and there are 4,096 cells. The text comes first, then a line with the numbers. After a refusal there is no
 // text, and the first line is empty. What cannot be read or written is said on standard error.
+#![tactic(auto)]
+
 use answers::of_run;
 use input::{Input, read_whole};
 use io::write_all;
@@ -16,7 +18,7 @@ const MEMORY: usize = Cell::NUMBERS * Cell::LIMIT;
 const TEXT: usize = 65_536;
 
 // What stands behind the bytes that were read.
-#[derive(Drop)]
+#[derive(Clone, Copy)]
 enum Behind {
     Nothing,
     More,

@@ -1,5 +1,7 @@
 // The moves of links that a rewrite is made of: ports cut out of the chain, ports put in, a block moved or opened, an operator taken out, a
 // cell free again. Each function does on the memory what specs/Splices.antt says on plain values.
+#![tactic(auto)]
+
 ghost use Rattle.std.specs.Prelude.{◌≤◌, ◌<◌};
 ghost use Rattle.memory.specs.Held.{held_numbers};
 ghost use Rattle.memory.specs.Memory.{start};

@@ -1,5 +1,7 @@
 // What is kept on disk: a number in four bytes, lowest first, and bytes behind their count, each read and written at a place; spans and
 // the parts they name; whether bytes are the same. Every request that stores uses these. What the end of the bytes cuts is told as cut.
+#![tactic(auto)]
+
 ghost use Rattle.std.specs.Prelude.{◌≡◌, ◌+◌, ◌≤◌, ◌<◌, ◌^◌, length};
 ghost use Rattle.kinds.specs.Written.{put_at};
 ghost use Rattle.stored.specs.Counted.{four, four_bytes, with_count};
@@ -15,28 +17,28 @@ pub const NUMBER: usize = 4;
 pub const LARGEST: u32 = 4_294_967_295;
 
 // Bytes of a slice: where they begin, and how many they are.
-#[derive(Drop)]
+#[derive(Clone, Copy)]
 pub struct Span {
     pub at: usize,
     pub len: usize,
 }
 
 // A number at a place.
-#[derive(Drop)]
+#[derive(Clone, Copy)]
 pub enum NumberAt {
     Cut,
     Whole(u32),
 }
 
 // Bytes at a place, behind their count.
-#[derive(Drop)]
+#[derive(Clone, Copy)]
 pub enum CountedAt {
     Cut,
     Whole(Span),
 }
 
 // Two of these at a place, one behind the other.
-#[derive(Drop)]
+#[derive(Clone, Copy)]
 pub enum TwoCountedAt {
     Cut,
     Both { first: Span, second: Span },

@@ -1,5 +1,7 @@
 // Writes to standard output: the five numbers of an answer, its printed text, plain words and counts. What cannot be written is said on
 // standard error.
+#![tactic(auto)]
+
 ghost use Rattle.std.specs.Prelude.{◌≤◌, length};
 
 use io::{print_decimal, write_all};

@@ -1,4 +1,6 @@
 // The smallest questions about a text: the class of a byte, and whether a mark begins at a place.
+#![tactic(auto)]
+
 ghost use Rattle.std.specs.Prelude.{◌≡◌, ◌+◌, ◌<◌, length, get_or, drop};
 ghost use Rattle.plan.specs.Reading.{class, mark};
 ghost use Rattle.plan.specs.Token.{annotation};

@@ -1,4 +1,6 @@
 // What the next byte of a token says: the token goes on, ends, or has a fault here. The reader's inner loop asks this byte by byte.
+#![tactic(auto)]
+
 ghost use Rattle.std.specs.Prelude.{◌≡◌, ◌+◌, ◌<◌, ◌≤◌, length, drop};
 ghost use Rattle.kinds.specs.Limits.{text_limit, token_limit};
 ghost use Rattle.plan.specs.Token.{character};
@@ -9,14 +11,14 @@ use kinds::{Place, Token};
 use plan::{Character, TokenFault};
 
 // What reading a token comes to: a whole one, or its first fault and where that stands.
-#[derive(Drop)]
+#[derive(Clone, Copy)]
 pub enum TokenRead {
     Whole,
     Faulty { fault: TokenFault, at: Place },
 }
 
 // What the next byte of a token begins: a character of so many bytes that the token may hold, or the end of the token's reading.
-#[derive(Drop)]
+#[derive(Clone, Copy)]
 pub enum InToken {
     Further(u32),
     Ends(TokenRead),

@@ -1,5 +1,7 @@
 // The C interface: each service as a function for C and other languages, with its answer told by five numbers. include/turnip.h declares
 // and explains these functions. Each asks nothing of its caller, and its contract is the service's (specs/Arrays.antt, specs/RollArrays.antt).
+#![tactic(auto)]
+
 ghost use Rattle.std.specs.Prelude.{◌≡◌};
 ghost use Rattle.numbers.specs.Numbers.{read_numbers};
 ghost use Rattle.read.specs.Calls.{ReadsOut};

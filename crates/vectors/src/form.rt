@@ -17,7 +17,7 @@ const NOWHERE: usize = usize::MAX;
 const LARGEST: usize = 1_000_000_000_000;
 
 // The number that a field holds, or how many bytes it stands for, and the place of the next field.
-#[derive(Drop)]
+#[derive(Clone, Copy)]
 pub struct Field {
     pub value: usize,
     pub next: usize,
@@ -27,7 +27,7 @@ pub struct Field {
 const QUOTA: usize = 4_294_967_295;
 
 // The numbers of a case, with the place of its TEXT. The quota and the memory are for RUN.
-#[derive(Drop)]
+#[derive(Clone, Copy)]
 pub struct Case {
     pub kind: usize,
     pub quota: u32,
@@ -42,7 +42,7 @@ pub struct Case {
 }
 
 // What of the room TEXT and OUT take, one behind the other, and the place past them.
-#[derive(Drop)]
+#[derive(Clone, Copy)]
 pub struct Unpacked {
     pub text: usize,
     pub out: usize,

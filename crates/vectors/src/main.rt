@@ -11,6 +11,8 @@
 // kind has not, its line has as 0. Numbers are decimal. TEXT, what the service is given, and OUT, what it is to write,
 // are bytes: the number of their runs, then for each run its LENGTH in bytes and its pattern in hex, which is repeated
 // until LENGTH bytes are filled. So `2 3 5b 1 5d` is `[[[]`, and `0` is no bytes.
+#![tactic(auto)]
+
 mod form;
 mod report;
 

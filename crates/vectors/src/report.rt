@@ -21,7 +21,7 @@ pub const MEMORY_LEFT: u32 = 5;
 pub const MALFORMED: u32 = 6;
 
 // How many lines there were, and how many came to what; the malformed ones are the faults beside those counted by kind.
-#[derive(Drop)]
+#[derive(Clone, Copy)]
 pub struct Report {
     lines: u32,
     read: u32,

@@ -1,6 +1,8 @@
 // Whether a word list is right, and if not, the least rank at fault. Each word is checked by itself and beside the names before it, up to
 // the first that is not right. Then the texts of the words before that one are walked once, and each token is asked which word it names. So
 // nothing grows with the square of the list's bytes.
+#![tactic(auto)]
+
 ghost use Rattle.std.specs.Prelude.{◌≡◌, [], ◌*◌, ◌≤◌, length, drop};
 ghost use Rattle.kinds.specs.Limits.{standard, token_limit};
 ghost use Rattle.plan.specs.Pieces.{pieces};
@@ -20,21 +22,21 @@ use words_meaning::{MOST, NAME_LIMIT};
 use words_shelf::{Named, find, find_piece, keep, text_of};
 
 // What a list is found to be: the least rank at fault, or so many words.
-#[derive(Drop)]
+#[derive(Clone, Copy)]
 pub enum Checked {
     Bad(u32),
     Words(u32),
 }
 
 // One word checked by itself and beside the names before it: where its name and its text stand, if it fits.
-#[derive(Drop)]
+#[derive(Clone, Copy)]
 pub enum WordThere {
     Unfit,
     Fit { name: Span, text: Span },
 }
 
 // How many words fit by themselves, and whether they are all, with no byte behind them.
-#[derive(Drop)]
+#[derive(Clone, Copy)]
 pub struct FitWords {
     pub fit: u32,
     pub whole: bool,

@@ -1,6 +1,8 @@
 // LINK, the service of request 6: it puts the words of a list where a text's tokens name them. It is public and asks nothing of its caller,
 // and its contract says for every input what the call answers and leaves (specs/Calls.antt). It remembers a few numbers for each word, and
 // these stand on the stack.
+#![tactic(auto)]
+
 ghost use Rattle.words_shelf.specs.Shelf.{Readable};
 ghost use Rattle.words_link.specs.Calls.{Links};
 ghost use Rattle.words_link.specs.Parts.{WordsKnown, WroteByWords, WroteLinked};

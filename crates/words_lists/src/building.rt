@@ -15,7 +15,7 @@ const LONGEST: usize = 1000;
 const MOST: u32 = 1000;
 
 // A list in the first bytes of a buffer, how many words were put into it, and whether all of its field could be read.
-#[derive(Drop)]
+#[derive(Clone, Copy)]
 pub struct List {
     pub bytes: usize,
     pub words: u32,

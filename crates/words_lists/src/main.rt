@@ -4,6 +4,8 @@
 // A line of the input is `label | words | text | output`, or a heading; `output` is how many bytes of output are lent. The line is written
 // as it is, except a long list, which is told by the number of its words; then come the five numbers of the answer, the printed text or
 // how long it is, and whether every byte of the output past that text is as it was.
+#![tactic(auto)]
+
 mod building;
 
 ghost use Rattle.std.specs.Prelude.{◌≤◌, length};

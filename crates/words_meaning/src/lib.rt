@@ -1,5 +1,7 @@
 // What stock words mean: the stored list and its faults, linking, the answers and their types; the laws of these, and the worked lists. The
 // definitions in specs/ speak of the types here, so that a promise is one equation.
+#![tactic(auto)]
+
 ghost use Rattle.std.specs.Prelude.{◌≡◌};
 ghost use Rattle.words_meaning.specs.Answers.{link_numbers, link_refusal_numbers};
 
@@ -14,7 +16,7 @@ pub const MOST: u32 = 256;
 pub const NAME_LIMIT: usize = Token::LIMIT - 3;
 
 // Why a call is refused, with the place that goes with it.
-#[derive(Drop)]
+#[derive(Clone, Copy)]
 pub enum LinkRefusal {
     // The least rank at fault.
     BadWords(u32),
@@ -25,7 +27,7 @@ pub enum LinkRefusal {
 }
 
 // What linking answers. A refusal has no cells and no length.
-#[derive(Drop)]
+#[derive(Clone, Copy)]
 pub enum LinkAnswer {
     Linked { cells: u32, length: u32 },
     Refused(LinkRefusal),

@@ -1,6 +1,8 @@
 // How large a linked plan is: its cells and the bytes of its printed text, before anything is written. To measure a text is to measure the
 // words that it uses. A word is measured once and then remembered, and counts stop growing past the limit. So even a list in which each word
 // uses the one before it twice is soon measured.
+#![tactic(auto)]
+
 ghost use Rattle.std.specs.Prelude.{◌≡◌, ℕ, ◌+◌, ◌≤◌, min, List, [], ◌∷◌, length};
 ghost use Rattle.plan.specs.Pieces.{Piece as PlanPiece};
 ghost use Rattle.pieces.specs.Written.{Is};
@@ -18,14 +20,14 @@ pub const PAST_CELLS: u32 = Cell::LIMIT as u32 + 1;
 pub const PAST_BYTES: u32 = (Token::LIMIT * Cell::LIMIT) as u32 + 1;
 
 // The cells of a plan and the bytes of its printed text, up to these two.
-#[derive(Drop)]
+#[derive(Clone, Copy)]
 pub struct Size {
     pub cells: u32,
     pub length: u32,
 }
 
 // The size of what is put for a piece. It is at hand, or it is that of a word which was not measured yet.
-#[derive(Drop)]
+#[derive(Clone, Copy)]
 pub enum AtHand {
     Known(Size),
     Word(u32),

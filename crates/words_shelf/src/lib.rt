@@ -1,5 +1,7 @@
 // Where the names and the texts of a list's words stand, which word a token names, and what is remembered of each word. A word is known by
 // its rank. For each rank `spans` has where the word's name and its text stand in the list.
+#![tactic(auto)]
+
 ghost use Rattle.std.specs.Prelude.{◌≡◌, ℕ, List, ◌∷◌};
 ghost use Rattle.plan.specs.Pieces.{Piece as PlanPiece};
 ghost use Rattle.pieces.specs.Written.{Is, TokenAt};
@@ -19,14 +21,14 @@ use spans::name_of;
 pub use spans::{WORD_NUMBERS, keep, text_of};
 
 // Which of the first words a token names.
-#[derive(Drop)]
+#[derive(Clone, Copy)]
 pub enum Named {
     Unlisted,
     Listed(u32),
 }
 
 // The two numbers that are remembered for a word, if any are.
-#[derive(Drop)]
+#[derive(Clone, Copy)]
 pub enum Noted {
     Nothing,
     Both(u32, u32),

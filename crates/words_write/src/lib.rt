@@ -1,5 +1,7 @@
 // Writes a linked plan: the text's pieces in a row, with a word's linked text where its token stands. A word is written once and then
 // copied from the output, and one that links to nothing is not entered. So the work is to walk each text once and to write the bytes.
+#![tactic(auto)]
+
 ghost use Rattle.std.specs.Prelude.{◌≡◌, ℕ, ◌+◌, ◌≤◌, ◌<◌, ◌*◌, true, List, [], length, take, drop};
 ghost use Rattle.plan.specs.Plan.{print};
 ghost use Rattle.kinds.specs.Written.{put_at};
@@ -13,7 +15,7 @@ use pieces::{Piece, put_piece};
 use words_shelf::{Named, Noted, find_piece, note, recall, text_of};
 
 // What is put for a piece: the piece itself, bytes that stand in the output already, or a word that was not written yet.
-#[derive(Drop)]
+#[derive(Clone, Copy)]
 pub enum ToPut {
     Itself,
     Copy { from: usize, len: usize },
