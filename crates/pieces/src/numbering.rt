@@ -6,6 +6,7 @@ ghost use Rattle.pieces.specs.Numbered.{operator_number, operator_of, class_of};
 use plan::{Class, Operator};
 
 // The byte that an operator is read from and printed as.
+#[tactic(auto, unfolding(plan::specs::Plan::letter))]
 pub fn letter(operator: Operator) -> u8
     ensures { result ≡ letter operator }
 {

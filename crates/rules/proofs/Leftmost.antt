@@ -161,9 +161,9 @@ module _ {L : Type 0} where
   unfolding after_two ◌then◌
   after_two_chosen l B m A end = tt
   after_two_chosen l B m A (operator n op_a p) =
-      record { number = 2; ready = omega arith; leftmost = before_two l B m A _; rewritten = at_once op_a l B m A n p }
+      record { number = 2; ready = omega arith; leftmost = before_two l B m A (operator n op_a p); rewritten = at_once op_a l B m A n p }
   after_two_chosen l B m A (operator n op_b p) =
-      record { number = 2; ready = omega arith; leftmost = before_two l B m A _; rewritten = at_once op_b l B m A n p }
+      record { number = 2; ready = omega arith; leftmost = before_two l B m A (operator n op_b p); rewritten = at_once op_b l B m A n p }
   after_two_chosen l B m A (operator n op_c p) = tt
   after_two_chosen l B m A (operator n op_d p) = tt
   after_two_chosen l B m A (token n t p) = tt
@@ -175,9 +175,9 @@ module _ {L : Type 0} where
   first_block_chosen l A (operator n op_a p) = tt
   first_block_chosen l A (operator n op_b p) = tt
   first_block_chosen l A (operator n op_c p) =
-      record { number = 1; ready = omega arith; leftmost = before_one l A _; rewritten = at_once op_c l end l A n p }
+      record { number = 1; ready = omega arith; leftmost = before_one l A (operator n op_c p); rewritten = at_once op_c l end l A n p }
   first_block_chosen l A (operator n op_d p) =
-      record { number = 1; ready = omega arith; leftmost = before_one l A _; rewritten = at_once op_d l end l A n p }
+      record { number = 1; ready = omega arith; leftmost = before_one l A (operator n op_d p); rewritten = at_once op_d l end l A n p }
   first_block_chosen l A (token n t p) = tt
   first_block_chosen l A (block m B p) = after_two_chosen l A m B p
 
