@@ -8,8 +8,6 @@ ghost use Rattle.stored.specs.Counted.{four, four_bytes, with_count};
 ghost use Rattle.stored.specs.Places.{number_at, counted_at, two_counted_at};
 ghost use Rattle.stored.specs.Spans.{SpanWithin, part};
 
-use bytes::copy;
-
 // The bytes that a number takes.
 pub const NUMBER: usize = 4;
 
@@ -115,7 +113,7 @@ fn put_bytes(bytes: &mut [u8], at: usize, given: &[u8])
     requires { at + length given.now ≤ length bytes.old }
     ensures { bytes.new ≡ put_at bytes.old at given.now }
 {
-    copy(given, &mut bytes[at..at + given.len()]);
+    bytes[at..at + given.len()].copy_from_slice(given);
 }
 
 pub fn put_counted(bytes: &mut [u8], at: usize, given: &[u8])
