@@ -22,7 +22,8 @@ pub freed_shared : {n : ℕ} {w : List ℕ} {free : ℕ} (used cs : List ℕ) �
     → Shared n (freed w free cs) (first_free free cs) used
 unfolding freed first_free
 freed_shared used [] s = rw append-nil at s
-freed_shared used (c ∷ cs) s = freed_shared used cs (shared_free used c cs s)
+freed_shared {n = n} {w = w} {free = free} used (c ∷ cs) s =
+    freed_shared {n = n} {w = set w (2 * start c + 1) free} {free = c} used cs (shared_free used c cs s)
 
 pub freed_linked : (w : List ℕ) (free : ℕ) (cs xs : List ℕ) → ((c : ℕ) → ¬ Absent c cs → Absent (start c) xs)
     → Linked w xs → Linked (freed w free cs) xs

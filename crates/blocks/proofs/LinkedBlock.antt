@@ -1,5 +1,5 @@
 -- A block of a plan that the memory holds is linked in itself. Its ports come in a row among the plan's ports, and these are linked.
-use Prim.Native.Nat.{ℕ, ◌+◌}
+use Prim.Native.Nat.{ℕ}
 use mathlib.Core.Path.{◌≡◌, ap, ◌∙◌, subst}
 use mathlib.Core.List.{List, [], ◌∷◌, ◌++◌, append_assoc}
 use Rattle.plan.specs.Plan.{Plan, labels}

@@ -2,11 +2,11 @@
 -- from its start, and one from the port behind its start.
 use Prim.Native.Nat.{ℕ, ◌+◌, ◌/◌, ◌%◌, ◌<◌, ◌≤◌}
 use mathlib.Core.Path.{◌≡◌, refl, ap, sym, ◌∙◌}
-use mathlib.Core.Bool.{Bool, true, false, not}
+use mathlib.Core.Bool.{Bool, true, false}
 use mathlib.Core.Logic.{◌≢◌}
 use mathlib.Core.List.{List, [], ◌∷◌, ◌++◌}
 use native.Mathlib.Omega.{arith}
-use borrow.Author.Tests.{eq-eqb, ne_eqb, eqb-true, eqb-false, not-true, not-false}
+use borrow.Author.Tests.{eq-eqb, ne_eqb, eqb-true, eqb-false}
 use lib.Dec.{eqb}
 use lib.ListN.{length}
 use Rattle.plan.specs.Plan.{Plan, end, operator, token, block, labels}
@@ -18,13 +18,13 @@ use Rattle.blocks.proofs.Ways.{Way}
 
 -- an even port is a start: as the code's test says
 module _ (p : ℕ) {closes : Bool} (e : closes ≡ eqb (p % 2) 1) where
-  pub is_start : not closes ≡ true → p % 2 ≡ 0
+  pub is_start : closes ≡ false → p % 2 ≡ 0
   is_start h =
-      let even : p % 2 ≢ 1 = eqb-false (p % 2) 1 (sym e ∙ not-true closes h) in
+      let even : p % 2 ≢ 1 = eqb-false (p % 2) 1 (sym e ∙ h) in
       let low : p % 2 < 2 = omega arith in omega arith
 
-  pub is_close : not closes ≡ false → p % 2 ≢ 0
-  is_close h = omega (arith, eqb-true (p % 2) 1 (sym e ∙ not-false closes h))
+  pub is_close : closes ≡ true → p % 2 ≢ 0
+  is_close h = omega (arith, eqb-true (p % 2) 1 (sym e ∙ h))
 
 abbrev with_start : Bool → (port : ℕ) → List ℕ → List ℕ
 with_start true port cs = port / 2 ∷ cs
