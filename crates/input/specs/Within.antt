@@ -5,4 +5,4 @@ use Rattle.input.specs.declared.Input.TheVariants.{Read, Failed}
 
 abbrev pub Within : Input → (size : ℕ) → Type 0
 Within (Read n) size = n ≤ size
-Within Failed size = Unit {0}
+Within (Failed error) size = Unit {0}

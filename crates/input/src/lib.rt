@@ -4,40 +4,43 @@
 ghost use Rattle.std.specs.Prelude.{length};
 ghost use Rattle.input.specs.Within.{Within};
 
-use libc::{EINTR, STDIN_FILENO};
+use std::io;
+use std::io::{Error, ErrorKind, Read};
 
-// How many bytes of the input stand in the buffer. Where they do not fill it, they are all of the input. Or a read failed.
+// How many bytes of the input stand in the buffer. Where they do not fill it, they are all of the input. Or a read failed, and why.
 #[derive(Clone, Copy)]
 pub enum Input {
     Read(usize),
-    Failed,
+    Failed(Error),
 }
 
 // How often reads may be interrupted; past it the input counts as failed, so that reading ends.
 const PATIENCE: u32 = 1_000_000;
 
 // Reads until the buffer is full, the input ends or a read fails. After a read that was interrupted it goes on.
-pub fn read_whole(buffer: &mut [u8]) -> Input
+pub fn read_whole(rt: &impl io::Input, buffer: &mut [u8]) -> Input
     ensures { Within result (length buffer.new) }
 {
+    let mut reader = rt.reader();
     let mut done: usize = 0;
     let mut patience = PATIENCE;
     while done < buffer.len() {
-        let got = libc::read(STDIN_FILENO, &mut buffer[done..]);
-        if got < 0 {
-            if os::errno() != EINTR {
-                return Input::Failed;
+        match reader.read(&mut buffer[done..]) {
+            Err(error) => {
+                if error.kind() != ErrorKind::Interrupted {
+                    return Input::Failed(error);
+                }
+                if patience == 0 {
+                    return Input::Failed(error);
+                }
+                patience -= 1;
             }
-            if patience == 0 {
-                return Input::Failed;
+            Ok(more) => {
+                if more == 0 {
+                    return Input::Read(done);
+                }
+                done += more;
             }
-            patience -= 1;
-        } else {
-            let more = io::count(got, &buffer[done..]);
-            if more == 0 {
-                return Input::Read(done);
-            }
-            done += more;
         }
     }
     Input::Read(done)
