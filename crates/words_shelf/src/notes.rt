@@ -6,6 +6,7 @@ ghost use Rattle.words_shelf.specs.Notes.{noted, with_note};
 
 use crate::Noted;
 
+#[tactic(auto, unfolding(crate::specs::Notes::noted))]
 pub fn recall(notes: &[u32], rank: u32) -> Noted
     requires { 2 * rank + 1 < length notes.now }
     ensures { result ≡ noted notes.now rank }
@@ -18,6 +19,7 @@ pub fn recall(notes: &[u32], rank: u32) -> Noted
     Noted::Both(first - 1, notes[at + 1])
 }
 
+#[tactic(auto, unfolding(crate::specs::Notes::with_note))]
 pub fn note(notes: &mut [u32], rank: u32, first: u32, second: u32)
     requires { (2 * rank + 1 < length notes.old) × (first < largest) }
     ensures { notes.new ≡ with_note notes.old rank first second }
