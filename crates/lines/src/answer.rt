@@ -9,41 +9,48 @@ use telling::{say, say_count, tell_five, warn_unless};
 const SHOWN: usize = 100;
 
 // A text; if it is too long to be read, a count and what is counted stand for it.
-fn tell_short(text: &[u8], count: usize, counted: &[u8]) {
+fn tell_short(rt: &(impl Print + Eprint), text: &[u8], count: usize, counted: &[u8]) {
     if text.len() <= SHOWN {
-        say(text);
+        say(rt, text);
     } else {
-        say_count(count as u64);
-        say(counted);
+        say_count(rt, count as u64);
+        say(rt, counted);
     }
 }
 
 // Writes a line again, without its end. The part between two places is told by a count if it is too long.
-pub fn echo(line: &[u8], from: usize, to: usize, count: usize, counted: &[u8])
+pub fn echo(
+    rt: &(impl Print + Eprint),
+    line: &[u8],
+    from: usize,
+    to: usize,
+    count: usize,
+    counted: &[u8],
+)
     requires { (from ≤ to) × (to ≤ length line.now) }
 {
-    say(&line[0..from]);
-    tell_short(&line[from..to], count, counted);
-    say(&line[to..]);
+    say(rt, &line[0..from]);
+    tell_short(rt, &line[from..to], count, counted);
+    say(rt, &line[to..]);
 }
 
 // Behind a line: the five numbers and the printed text, which the output holds first.
-pub fn tell_answer(numbers: Numbers, output: &[u8])
+pub fn tell_answer(rt: &(impl Print + Eprint), numbers: Numbers, output: &[u8])
     requires { numbers.length ≤ length output.now }
 {
     let length = numbers.length as usize;
-    say(b" | ");
-    warn_unless(tell_five(numbers));
-    say(b" | ");
-    tell_short(&output[0..length], length, b" bytes");
-    say(b" | ");
+    say(rt, b" | ");
+    warn_unless(rt, tell_five(rt, numbers));
+    say(rt, b" | ");
+    tell_short(rt, &output[0..length], length, b" bytes");
+    say(rt, b" | ");
 }
 
 // Ends a line: whether the output is as it was from a place on.
-pub fn tell_rest(output: &[u8], from: usize) {
+pub fn tell_rest(rt: &(impl Print + Eprint), output: &[u8], from: usize) {
     if untouched(output, from) {
-        say(b"rest untouched\n");
+        say(rt, b"rest untouched\n");
     } else {
-        say(b"rest CHANGED\n");
+        say(rt, b"rest CHANGED\n");
     }
 }

@@ -1,8 +1,6 @@
 // Where a sign stands in a text, and the fields of a line, which the sign ` | ` parts.
 ghost use Rattle.std.specs.Prelude.{◌+◌, ◌≤◌, min, length};
 
-use check::same;
-
 // Where a sign begins, and the place behind it. Where there is none, both are the end of the text.
 #[derive(Clone, Copy)]
 pub struct Sign {
@@ -29,7 +27,7 @@ pub fn past_sign(text: &[u8], at: usize, sign: &[u8]) -> usize
         return at;
     }
     let end = at + sign.len();
-    if same(&text[at..end], sign) {
+    if &text[at..end] == sign {
         return end;
     }
     at
