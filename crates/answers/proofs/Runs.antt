@@ -13,7 +13,7 @@ use Rattle.plan.specs.declared.TextFault.TheVariants.{TooLong}
 use Rattle.plan.specs.declared.Unread.TheVariants.{Text}
 use Rattle.plan.specs.Outcomes.{GIVES, Outcome, REFUSES}
 use Rattle.plan.specs.Pieces.{placed}
-use Rattle.plan.specs.Plan.{Plan, bare, cells}
+use Rattle.plan.specs.Plan.{Plan, bare}
 use Rattle.plan.specs.Reading.{ACCEPTED, Acceptance, OUTSIDE, UNREAD, accept, read, without_marks}
 use Rattle.plan.proofs.Accepting.{Roomy, accept_short, accepted_text}
 use Rattle.plan.proofs.Annotations.{accept-without_marks}
