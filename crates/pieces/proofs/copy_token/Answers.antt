@@ -1,4 +1,3 @@
-use Rattle.std.proofs.Common.{rules}
 use Rattle.pieces.proofs.Copying.{copy_more}
 use Rattle.pieces.proofs.copy_token.Goals as goal
 
