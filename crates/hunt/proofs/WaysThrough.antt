@@ -1,6 +1,6 @@
 -- Further laws of ways. The way through a sequence may be jumped along. The way through a whole plan may be entered at any port of it. That
 -- way counts one cell more, since the outermost start belongs to a cell that is not lent.
-use Prim.Native.Nat.{ℕ, suc, ◌+◌}
+use Prim.Native.Nat.{ℕ, suc}
 use mathlib.Core.Path.{◌≡◌, ap, subst}
 use mathlib.Core.Logic.{◌≢◌}
 use mathlib.Core.List.{List, [], ◌∷◌, ◌++◌}
@@ -62,4 +62,4 @@ way_at [] (x ∷ xs) y ys h e other = absurd (omega (arith, ap length e, length-
 way_at {w} {n} {stop} {port} (p ∷ ps) [] y ys h e other =
     let same : port ≡ y = cc h.leads.0 in
     subst (λ z. Way w n stop z (ahead w n stop z)) same (way_from h)
-way_at (p ∷ ps) (x ∷ xs) y ys h e other = way_at ps xs y ys (way_skip [] p ps h) (cc) other
+way_at {w = w} {n = n} {stop = stop} {port = port} (p ∷ ps) (x ∷ xs) y ys h e other = way_at {w = w} {n = n} {stop = stop} {port = link w p} ps xs y ys (way_skip [] p ps h) (cc) other
