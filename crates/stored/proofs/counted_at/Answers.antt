@@ -7,7 +7,7 @@ pub overflow_add-from : goal.overflow_add-from
 overflow_add-from c = let within = (number_found c.args.bytes.now c.args.at (sym c.number_at.ensures ∙ c.in-Whole.is)).0 in search rules
 
 pub overflow_sub-bytes : goal.overflow_sub-bytes
-overflow_sub-bytes c = (number_found c.args.bytes.now c.args.at (sym c.number_at.ensures ∙ c.in-Whole.is)).0
+overflow_sub-bytes c = omega (arith, (number_found c.args.bytes.now c.args.at (sym c.number_at.ensures ∙ c.in-Whole.is)).0)
 
 pub returns-then-bytes-from : goal.returns-then-bytes-from
 returns-then-bytes-from c = counted_at_short _ _ (sym c.number_at.ensures ∙ c.in-Whole.is) (omega arith)
