@@ -1,4 +1,5 @@
 -- `copy_block`: what stands in the memory before the loop is `Prepared`, and each turn is the lemma `walk_on`.
+use Rattle.std.proofs.Common.{arith}
 use Rattle.memory.proofs.Steps.{still_lent}
 use Rattle.copier.proofs.CopyLoop.{block_small, block_start, copy_small, has_copy, lent_apart, port_low, prepared, tail_low, walk_end, walk_first, walk_less, walk_like, walk_on}
 use Rattle.copier.proofs.copy_block.Goals as goal
@@ -39,7 +40,7 @@ loop-port-preserved c =
     walk_on c.loop-port.invariant c.loop-port-test.true c.put_like-build.ensures _ c.link_of-port-in-loop-port.ensures
 
 pub close-requires : goal.close-requires
-close-requires c = copy_small c.requires
+close-requires c = omega (arith, copy_small c.requires, c.requires.lent.few)
 
 pub set_link-first-requires : goal.set_link-first-requires
 set_link-first-requires c = (c.loop-port.invariant.lent, tail_low c.loop-port.invariant)
