@@ -8,13 +8,13 @@ pub loop-left-init : goal.loop-left-init
 loop-left-init c = sections-first _ c.requires
 
 pub returns-in-Cut : goal.returns-in-Cut
-returns-in-Cut c = sections_torn c.loop-left.invariant c.loop-left-test.true (sym c.counted_at.ensures ∙ c.in-Cut.is)
+returns-in-Cut c = sections_torn c.loop-left.invariant (omega arith) (sym c.counted_at.ensures ∙ c.in-Cut.is)
 
 pub overflow_add-at : goal.overflow_add-at
 overflow_add-at c = let within = (counted_found c.args.roll.now c.loop-left.at (sym c.counted_at.ensures ∙ c.in-Whole.is)).within in search rules
 
 pub loop-left-preserved : goal.loop-left-preserved
-loop-left-preserved c = sections_on c.loop-left.invariant c.loop-left-test.true (sym c.counted_at.ensures ∙ c.in-Whole.is)
+loop-left-preserved c = sections_on c.loop-left.invariant (omega arith) (sym c.counted_at.ensures ∙ c.in-Whole.is)
 
 pub returns : goal.returns
 returns c = sections_end c.loop-left.invariant (omega arith)
