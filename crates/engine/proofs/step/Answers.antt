@@ -1,0 +1,27 @@
+-- `step`: hunt, count, ask, rewrite.
+use Rattle.std.proofs.Common.{true, not, ap}
+use Rattle.engine.proofs.Turning.{huntable, turn-done, turn_full, turn_quota, turn_rewritable, turn_went}
+use Rattle.engine.proofs.step.Goals as goal
+
+pub hunt-requires : goal.hunt-requires
+hunt-requires c = huntable c.requires
+
+pub returns-then-after-outer-clause-turned : goal.returns-then-after-outer-clause-turned
+returns-then-after-outer-clause-turned c =
+    turn_full c.hunt.ensures c.in-Ready.is _ c.size_after-after.ensures c.if-after-outer.true true
+
+pub returns-then-not-more-clause-turned : goal.returns-then-not-more-clause-turned
+returns-then-not-more-clause-turned c =
+    turn_quota c.hunt.ensures c.in-Ready.is _ c.size_after-after.ensures c.if-after-outer.false _ (ap not c.if-not-more.true)
+
+pub rewrite-next-requires : goal.rewrite-next-requires
+rewrite-next-requires c =
+    turn_rewritable c.hunt.ensures c.in-Ready.is _ c.size_after-after.ensures c.if-after-outer.false c.requires
+
+pub returns-in-Nothing-clause-turned : goal.returns-in-Nothing-clause-turned
+returns-in-Nothing-clause-turned c = turn-done c.hunt.ensures c.in-Nothing.is true
+
+pub returns-else-not-more-clause-turned : goal.returns-else-not-more-clause-turned
+returns-else-not-more-clause-turned c =
+    turn_went c.hunt.ensures c.in-Ready.is _ c.size_after-after.ensures c.if-after-outer.false _ (ap not c.if-not-more.false)
+    c.rewrite-next.ensures.rewritten
