@@ -1,8 +1,9 @@
 /* The C interface of the plan reader: READ and RUN over lent bytes and numbers, linking by stock words, and the roll of filed
    jobs.
-   `rt staticlib turnip` writes target/staticlib/libturnip.a, which defines these functions for x86-64 Linux. Each of them is
-   proved to do, for every input, what the definitions in crates/plan/specs, crates/answers/specs, crates/roll_rules/specs and
-   crates/words_meaning/specs say; crates/turnip/src/lib.rt has the contracts. */
+   `rt lib` in crates/turnip_c writes its out/libturnip_c.a, which defines these functions for x86-64 Linux; tests/all keeps a
+   copy of it as target/staticlib/libturnip.a. Each of them is proved to do, for every input, what the definitions in
+   crates/plan/specs, crates/answers/specs, crates/roll_rules/specs and crates/words_meaning/specs say; crates/turnip/src/lib.rt
+   has the contracts, and crates/turnip_c/src/lib.rt says them again of what it exports. */
 #ifndef TURNIP_H
 #define TURNIP_H
 

@@ -70,7 +70,9 @@ build_library() {
         }
         return 0
     fi
-    said=$(rt staticlib turnip 2>&1 </dev/null) || {
+    rm -f "$library"
+    said=$(cd crates/turnip_c && rt lib 2>&1 </dev/null) && mkdir -p target/staticlib &&
+        cp crates/turnip_c/out/libturnip_c.a "$library" || {
         printf '%s\nThe library could not be proved and built: see above.\n' "$said" >&2
         return 1
     }
