@@ -60,6 +60,7 @@ fn are_permitted(name: &[u8]) -> bool
 }
 
 // A name is not empty, and with `%` before it makes an allowed token.
+#[tactic(auto, using(crate::proofs::Names::name_empty, crate::proofs::Names::name_long))]
 fn is_name(name: &[u8]) -> bool
     ensures { result ≡ is_name standard name.now }
 {

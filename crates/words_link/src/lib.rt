@@ -22,6 +22,7 @@ const SPANS: usize = WORD_NUMBERS * MOST as usize;
 const NOTES: usize = 2 * MOST as usize;
 
 // Links a text that reads: it is measured first, so that nothing is written unless all of it is.
+#[tactic(auto, using(crate::proofs::Outcomes::link_overfull))]
 fn link_readable(
     list: &[u8],
     spans: &[u32],

@@ -28,17 +28,17 @@ measure-loop-sum-preserved t c =
     measured_on inv _ _ _ here _ (c.in-Word.ensures _ here.is) word.told word.known word.as_long c.plus-sum-in-Word.ensures
 
 -- the word's text is measured, and what it measures is noted
-pub measure_word-note-requires : goal.measure_word-note-requires
-measure_word-note-requires t c =
+pub measure_word-returns-clause-known : goal.measure_word-returns-clause-known
+measure_word-returns-clause-known t c =
     let size = c.measure-size.ensures in
-    (omega (arith, size.as_long, c.requires.room), size_small _ size.told)
+    (word-noted c.args.list.now c.args.spans.now c.args.word c.args.notes.now _ c.text_of.ensures size.told size.known size.as_long c.requires.room c.note.ensures).1.0
 
 pub measure_word-returns-clause-told : goal.measure_word-returns-clause-told
 measure_word-returns-clause-told t c =
     let size = c.measure-size.ensures in
     (word-noted c.args.list.now c.args.spans.now c.args.word c.args.notes.now _ c.text_of.ensures size.told size.known size.as_long c.requires.room c.note.ensures).0
 
-pub measure_word-returns-clause-known : goal.measure_word-returns-clause-known
-measure_word-returns-clause-known t c =
+pub measure_word-note-requires : goal.measure_word-note-requires
+measure_word-note-requires t c =
     let size = c.measure-size.ensures in
-    (word-noted c.args.list.now c.args.spans.now c.args.word c.args.notes.now _ c.text_of.ensures size.told size.known size.as_long c.requires.room c.note.ensures).1.0
+    (omega (arith, size.as_long, c.requires.room), size_small _ size.told)

@@ -64,6 +64,11 @@ write-loop-piece-preserved t c =
     spliced_word inv _ _ _ here found _ _ wrote.behind wrote.written wrote.placed wrote.as_long
 
 -- the word's text is written, and where it stands is noted
+pub write_word-returns-clause-placed : goal.write_word-returns-clause-placed
+write_word-returns-clause-placed t c =
+    let wrote = c.write-behind.ensures in
+    (word-written _ _ _ c.requires c.text_of-used.ensures wrote.behind _ _ _ wrote.written wrote.placed wrote.as_long c.note.ensures).1.1.0
+
 pub write_word-returns-clause-behind : goal.write_word-returns-clause-behind
 write_word-returns-clause-behind t c =
     let wrote = c.write-behind.ensures in
@@ -73,8 +78,3 @@ pub write_word-returns-clause-written : goal.write_word-returns-clause-written
 write_word-returns-clause-written t c =
     let wrote = c.write-behind.ensures in
     (word-written _ _ _ c.requires c.text_of-used.ensures wrote.behind _ _ _ wrote.written wrote.placed wrote.as_long c.note.ensures).1.0
-
-pub write_word-returns-clause-placed : goal.write_word-returns-clause-placed
-write_word-returns-clause-placed t c =
-    let wrote = c.write-behind.ensures in
-    (word-written _ _ _ c.requires c.text_of-used.ensures wrote.behind _ _ _ wrote.written wrote.placed wrote.as_long c.note.ensures).1.1.0
