@@ -1,5 +1,6 @@
 // The C interface: each service as a function for C and other languages, with its answer told by five numbers. include/turnip.h declares
 // and explains these functions. Each asks nothing of its caller, and its contract is the service's (specs/Arrays.antt, specs/RollArrays.antt).
+// The crate turnip_c exports each of them to C, under its name.
 #![tactic(auto)]
 
 ghost use Rattle.std.specs.Prelude.{◌≡◌};
@@ -24,15 +25,13 @@ fn store(told: Numbers, answer: &mut [u32; 5])
     *answer = [told.number, told.steps, told.cells, told.length, told.place];
 }
 
-#[unsafe(no_mangle)]
-pub extern "C" fn turnip_read(text: &[u8], out: &mut [u8], answer: &mut [u32; 5])
+pub fn turnip_read(text: &[u8], out: &mut [u8], answer: &mut [u32; 5])
     ensures { InArray (λ r. five_of (read_numbers r)) (λ r. ReadsOut text.now out.old r out.new) answer.new }
 {
     store(of_read(read::read(text, out)), answer);
 }
 
-#[unsafe(no_mangle)]
-pub extern "C" fn turnip_run(
+pub fn turnip_run(
     text: &[u8],
     quota: u32,
     memory: &mut [u32],
@@ -51,8 +50,7 @@ fn store_roll(given: RollAnswer, answer: &mut [u32; 5])
     *answer = [told.number, told.entries, told.filed, told.done, told.place];
 }
 
-#[unsafe(no_mangle)]
-pub extern "C" fn turnip_roll_read(roll: &[u8], list: &mut [u32], answer: &mut [u32; 5])
+pub fn turnip_roll_read(roll: &[u8], list: &mut [u32], answer: &mut [u32; 5])
     ensures { InArray (λ r. five_of_roll (roll_numbers r)) (λ r. Lists roll.now list.old r list.new) answer.new }
 {
     store_roll(roll_read::read(roll, list), answer);
@@ -74,8 +72,7 @@ fn store_entry(given: EntryAnswer, answer: &mut [u32; 5])
     }
 }
 
-#[unsafe(no_mangle)]
-pub extern "C" fn turnip_roll_entry(roll: &[u8], at: usize, answer: &mut [u32; 5])
+pub fn turnip_roll_entry(roll: &[u8], at: usize, answer: &mut [u32; 5])
     ensures { answer.new ≡ five_of_entry (one_entry roll.now at) }
 {
     store_entry(roll_read::entry(roll, at), answer);
@@ -99,8 +96,7 @@ fn store_entered(entered: Entered, tally: &mut [u32; 2], answer: &mut [u32; 5])
     store_roll(given, answer);
 }
 
-#[unsafe(no_mangle)]
-pub extern "C" fn turnip_roll_file(
+pub fn turnip_roll_file(
     roll: &mut [u8],
     used: usize,
     job: &[u8],
@@ -114,8 +110,7 @@ pub extern "C" fn turnip_roll_file(
     store_entered(entered, tally, answer);
 }
 
-#[unsafe(no_mangle)]
-pub extern "C" fn turnip_roll_done(
+pub fn turnip_roll_done(
     roll: &mut [u8],
     used: usize,
     job: &[u8],
@@ -128,8 +123,7 @@ pub extern "C" fn turnip_roll_done(
     store_entered(entered, tally, answer);
 }
 
-#[unsafe(no_mangle)]
-pub extern "C" fn turnip_link(list: &[u8], text: &[u8], out: &mut [u8], answer: &mut [u32; 5])
+pub fn turnip_link(list: &[u8], text: &[u8], out: &mut [u8], answer: &mut [u32; 5])
     ensures { InArray (λ r. five_of (link_numbers r)) (λ r. Links list.now text.now out.old r out.new) answer.new }
 {
     store(of_link(words_link::link(list, text, out)), answer);
