@@ -9,13 +9,14 @@ use native.Mathlib.Omega.{arith}
 use lib.ListN.{length}
 use Rattle.kinds.specs.Limits.{cell_limit, standard, text_limit, token_limit}
 use Rattle.plan.specs.declared.ReadAnswer.{ReadAnswer}
+use Rattle.plan.specs.declared.TextFault.{TextFault}
 use Rattle.plan.specs.declared.Unread.{Unread}
 use Rattle.plan.specs.Plan.{cells, print}
-use Rattle.plan.specs.Refusals.{Row, bad_byte, bad_text as bad_row, bad_token, first_fault_there, faulty, overfull, too_long, unclosed, unmatched}
+use Rattle.plan.specs.Refusals.{Fault, Row, bad_byte, bad_text as bad_row, bad_token, first_fault_there, faulty, overfull, too_long, unclosed, unmatched}
 use Rattle.answers.specs.declared.RunAnswer.{RunAnswer}
 use Rattle.answers.specs.declared.RunRefusal.{RunRefusal}
 use Rattle.answers.specs.Run.{Refuses, bad_arena, text_refused as run_bad_row, run_numbers, run_refusal_numbers, text_too_long as run_too_long}
-use Rattle.numbers.specs.Numbers.{read_numbers, unread_numbers}
+use Rattle.numbers.specs.Numbers.{fault_number, read_numbers, unread_numbers}
 use Rattle.numbers.proofs.Told.{token_fault_range, unread_number_is}
 use Rattle.read.specs.Calls.{ReadsOut}
 use Rattle.run.specs.Calls.{Runs}
@@ -24,11 +25,14 @@ use Rattle.demands.proofs.Cases.{EndedRun, ReadCase, RunCase, bad_text, ended, e
 use Rattle.demands.proofs.Meanings.{ends_sound, reads_not-refused, sound_back, sound_cells, sound_length}
 use Rattle.demands.proofs.Numbers.{ending-at_most}
 
--- 11 is for no row of the text's bytes, and 18 for no row before the output's
+-- 11 is for no fault at a byte, so for no row of the text's bytes, and 18 for no row before the output's
+fault_there_number : {at b d : ℕ} {rest : List ℕ} {f : TextFault} → Fault token_limit at b rest d f → fault_number f ≢ TOOLONG
+fault_there_number (bad_byte c) e = omega arith
+fault_there_number (bad_token {f = t} c first) e = omega (arith, token_fault_range t)
+fault_there_number (unmatched c) e = omega arith
+
 row_number : {n : ℕ} {text : List ℕ} {u : Unread} → Row token_limit n text u → (unread_numbers u).number ≢ TOOLONG
-row_number (faulty (first_fault_there before rest b split f (bad_byte c))) e = omega arith
-row_number (faulty (first_fault_there before rest b split f (bad_token {f = t} c first))) e = omega (arith, token_fault_range t)
-row_number (faulty (first_fault_there before rest b split f (unmatched c))) e = omega arith
+row_number (faulty (first_fault_there before rest b split f there)) e = fault_there_number there e
 row_number (faulty (unclosed f)) e = omega arith
 row_number (overfull before rest b split f i w) e = omega arith
 
