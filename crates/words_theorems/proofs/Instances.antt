@@ -7,17 +7,14 @@ use native.Mathlib.Omega.{arith}
 use lib.ListN.{length, replicate, length-replicate}
 use Rattle.kinds.specs.Limits.{text_limit}
 use Rattle.plan.specs.declared.TextFault.TheVariants.{TooLong, Unmatched}
-use Rattle.plan.specs.Plan.{Plan, cells}
-use Rattle.plan.specs.Read.{read_outcome}
+use Rattle.plan.specs.Plan.{Plan}
 use Rattle.plan.specs.Reading.{enter, leave, place, without_marks}
-use Rattle.plan.specs.Token.{annotation}
 use Rattle.numbers.specs.Rows.{bytes}
 use Rattle.stored.specs.Same.{same}
-use Rattle.words_meaning.specs.Answers.{link_numbers, link_refusal_numbers, link_outcome}
+use Rattle.words_meaning.specs.Answers.{link_numbers, link_refusal_numbers}
 use Rattle.plan.proofs.Worked.{read_answer}
 use Rattle.words_meaning.proofs.Worked.{worked_lists}
 use Rattle.words_meaning.specs.Linking.{Word, holds}
-use Rattle.words_meaning.specs.Stock.{word}
 use Rattle.words_meaning.specs.declared.LinkAnswer.TheVariants.{Linked, Refused}
 use Rattle.words_meaning.specs.declared.LinkRefusal.TheVariants.{BadWords, Text, Overfull, OutShort}
 use Rattle.words_link.specs.Calls.{Links}
