@@ -5,15 +5,12 @@ use mathlib.Core.Path.{◌≡◌, refl, ap, ap₂}
 use mathlib.Core.List.{List, [], ◌∷◌, ◌++◌}
 use native.Mathlib.Omega.{arith}
 use lib.ListN.{take, replicate}
-use Rattle.plan.specs.Plan.{◌then◌}
-use Rattle.plan.specs.Token.{annotation}
 use Rattle.numbers.specs.Rows.{bytes}
-use Rattle.stored.specs.Counted.{number}
-use Rattle.roll_format.specs.Format.{Entry, entry, roll, says}
+use Rattle.roll_format.specs.Format.{Entry, says}
 use Rattle.roll_rules.proofs.Worked.{rolling}
 use Rattle.roll_rules.specs.Rules.{counts_done, counts_filed, done, filed, is_new, newest, standing}
 use Rattle.stored.specs.Same.{same}
-use Rattle.roll_rules.specs.Answers.{close_job, edition_1, file, places, roll_numbers}
+use Rattle.roll_rules.specs.Answers.{close_job, edition_1, file, roll_numbers}
 use Rattle.roll_rules.specs.declared.RollAnswer.{RollAnswer}
 use Rattle.roll_rules.specs.declared.RollAnswer.TheVariants.{Listed, Refused}
 use Rattle.roll_rules.specs.declared.RollRefusal.TheVariants.{BadRoll, BadText, Unfinished}

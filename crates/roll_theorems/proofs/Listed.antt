@@ -5,7 +5,7 @@ use mathlib.Core.Logic.{◌≢◌, ◌⊎◌, inl, inr}
 use mathlib.Core.List.{List}
 use native.Mathlib.Omega.{arith}
 use lib.ListN.{length, take}
-use Rattle.roll_rules.specs.Answers.{Judged, ENTRIES, REFUSED, Read, edition_1, judged, places, read_roll, roll_numbers}
+use Rattle.roll_rules.specs.Answers.{Judged, ENTRIES, REFUSED, Read, edition_1, judged, read_roll, roll_numbers}
 use Rattle.roll_format.specs.Format.{Entry}
 use Rattle.roll_rules.specs.declared.RollAnswer.{RollAnswer}
 use Rattle.roll_rules.specs.declared.RollAnswer.TheVariants.{Refused}
