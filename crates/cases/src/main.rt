@@ -15,6 +15,7 @@ use lines::{
     Number, echo, fields_of, find_sign, number_of, past_sign, read_input, tell_answer, tell_rest,
 };
 use numbers::Numbers;
+use std::io;
 use telling::say;
 
 // Room for all of the input, and more.
@@ -26,9 +27,9 @@ const MEMORY: usize = Cell::NUMBERS * Cell::LIMIT;
 const OUTPUT: usize = 2 * Cell::LIMIT;
 
 // A line that cannot be run is never passed over.
-fn complain(line: &[u8]) {
-    say(line);
-    say(b" | NOT RUN: no label | text | cells | quota\n");
+fn complain(rt: &(impl Print + Eprint), line: &[u8]) {
+    say(rt, line);
+    say(rt, b" | NOT RUN: no label | text | cells | quota\n");
 }
 
 // RUN, on a memory and an output that hold other values before.
@@ -41,82 +42,105 @@ fn run_filled(text: &[u8], quota: u32, memory: &mut [u32], output: &mut [u8]) ->
 }
 
 // Runs a text in all of the memory and tells what came of it.
-fn tell_run(text: &[u8], quota: u32, memory: &mut [u32], output: &mut [u8]) {
+fn tell_run(
+    rt: &(impl Print + Eprint),
+    text: &[u8],
+    quota: u32,
+    memory: &mut [u32],
+    output: &mut [u8],
+) {
     let numbers = run_filled(text, quota, memory, output);
-    tell_answer(numbers, output);
+    tell_answer(rt, numbers, output);
     if all_zero(memory) {
-        say(b"memory 0, ");
+        say(rt, b"memory 0, ");
     } else {
-        say(b"memory NOT 0, ");
+        say(rt, b"memory NOT 0, ");
     }
-    tell_rest(output, numbers.length as usize);
+    tell_rest(rt, output, numbers.length as usize);
 }
 
 // Runs a case in so many cells, as far as there are so many.
-fn tell_case(line: &[u8], cells: u32, quota: u32, memory: &mut [u32], output: &mut [u8]) {
+fn tell_case(
+    rt: &(impl Print + Eprint),
+    line: &[u8],
+    cells: u32,
+    quota: u32,
+    memory: &mut [u32],
+    output: &mut [u8],
+) {
     let fields = fields_of(line);
     let from = fields.second;
     let to = fields.second_end;
     let lent = Cell::NUMBERS * cells as usize;
     if memory.len() < lent {
-        complain(line);
+        complain(rt, line);
         return;
     }
-    echo(line, from, to, to - from, b" bytes");
-    tell_run(&line[from..to], quota, &mut memory[0..lent], output);
+    echo(rt, line, from, to, to - from, b" bytes");
+    tell_run(rt, &line[from..to], quota, &mut memory[0..lent], output);
 }
 
 // A case, or a line that is none.
-fn read_case(line: &[u8], memory: &mut [u32], output: &mut [u8]) {
+fn read_case(rt: &(impl Print + Eprint), line: &[u8], memory: &mut [u32], output: &mut [u8]) {
     let fields = fields_of(line);
     let third = fields.third;
     let third_end = fields.third_end;
     let fourth = fields.fourth;
     let Number::Value(cells) = number_of(&line[third..third_end]) else {
-        complain(line);
+        complain(rt, line);
         return;
     };
     let Number::Value(quota) = number_of(&line[fourth..]) else {
-        complain(line);
+        complain(rt, line);
         return;
     };
-    tell_case(line, cells, quota, memory, output);
+    tell_case(rt, line, cells, quota, memory, output);
 }
 
 // A line that begins with `#` is a heading.
-fn tell_line(line: &[u8], memory: &mut [u32], output: &mut [u8]) {
+fn tell_line(rt: &(impl Print + Eprint), line: &[u8], memory: &mut [u32], output: &mut [u8]) {
     if 0 < past_sign(line, 0, b"#") {
-        say(line);
-        say(b"\n");
+        say(rt, line);
+        say(rt, b"\n");
     } else {
-        read_case(line, memory, output);
+        read_case(rt, line, memory, output);
     }
 }
 
-fn tell_lines(input: &[u8], memory: &mut [u32], output: &mut [u8]) {
+fn tell_lines(rt: &(impl Print + Eprint), input: &[u8], memory: &mut [u32], output: &mut [u8]) {
     let mut at = 0;
     while at < input.len() {
         let sign = find_sign(input, at, b"\n");
         let end = sign.at;
-        tell_line(&input[at..end], memory, output);
+        tell_line(rt, &input[at..end], memory, output);
         at = sign.past;
     }
 }
 
-fn tell_input(input: &mut [u8], memory: &mut [u32], output: &mut [u8]) {
-    let read = read_input(input);
-    tell_lines(&input[0..read], memory, output);
+fn tell_input(
+    rt: &(impl io::Input + Print + Eprint),
+    input: &mut [u8],
+    memory: &mut [u32],
+    output: &mut [u8],
+) {
+    let read = read_input(rt, input);
+    tell_lines(rt, &input[0..read], memory, output);
 }
 
 // Lends each buffer as a slice. Behind a reference its length is known by its type; in `main` a proof would go through
 // its zeros one by one.
-fn lend(input: &mut [u8; INPUT], memory: &mut [u32; MEMORY], output: &mut [u8; OUTPUT]) {
-    tell_input(input, memory, output);
+fn lend(
+    rt: &(impl io::Input + Print + Eprint),
+    input: &mut [u8; INPUT],
+    memory: &mut [u32; MEMORY],
+    output: &mut [u8; OUTPUT],
+) {
+    tell_input(rt, input, memory, output);
 }
 
-fn main() {
+fn main(rt: HostRuntime) {
     let mut input = [0u8; INPUT];
     let mut memory = [0u32; MEMORY];
     let mut output = [0u8; OUTPUT];
-    lend(&mut input, &mut memory, &mut output);
+    lend(&rt, &mut input, &mut memory, &mut output);
 }

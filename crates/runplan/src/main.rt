@@ -5,9 +5,8 @@
 
 use answers::of_run;
 use input::{Input, read_whole};
-use io::write_all;
 use kinds::Cell;
-use libc::STDOUT_FILENO;
+use std::io;
 use telling::{tell_five, tell_printed};
 
 const QUOTA: u32 = 10_000;
@@ -22,17 +21,17 @@ const TEXT: usize = 65_536;
 enum Behind {
     Nothing,
     More,
-    Failed,
+    Failed(io::Error),
 }
 
 // There is something to ask only where the bytes fill the buffer. A shorter input has ended.
-fn look_behind(read: usize) -> Behind {
+fn look_behind(rt: &impl io::Input, read: usize) -> Behind {
     if read < TEXT {
         return Behind::Nothing;
     }
     let mut next = [0u8; 1];
-    match read_whole(&mut next) {
-        Input::Failed => Behind::Failed,
+    match read_whole(rt, &mut next) {
+        Input::Failed(error) => Behind::Failed(error),
         Input::Read(more) => {
             if 0 < more {
                 Behind::More
@@ -43,48 +42,60 @@ fn look_behind(read: usize) -> Behind {
     }
 }
 
-// Runs a text, writes what came of it, and answers whether all could be written.
-fn run_text(text: &[u8], memory: &mut [u32], output: &mut [u8]) -> bool {
+// Runs a text and writes what came of it; an error where not all could be written.
+fn run_text(rt: &impl Print, text: &[u8], memory: &mut [u32], output: &mut [u8]) -> io::Result<()> {
     let numbers = of_run(run::run(text, QUOTA, memory, output));
-    if !tell_printed(numbers, output) {
-        return false;
-    }
-    if !write_all(STDOUT_FILENO, b"\n") {
-        return false;
-    }
-    if !tell_five(numbers) {
-        return false;
-    }
-    write_all(STDOUT_FILENO, b"\n")
+    tell_printed(rt, numbers, output)?;
+    println!(rt)?;
+    tell_five(rt, numbers)?;
+    println!(rt)
+}
+
+// What could not be read is said on standard error.
+fn tell_unread(rt: &impl Eprint, error: io::Error) {
+    let _ = eprintln!(rt; "runplan: standard input: {error}");
 }
 
 // An input that could not be read to its end is not run, and what failed is said on standard error.
-fn run_input(input: &mut [u8], memory: &mut [u32], output: &mut [u8]) -> bool {
-    let Input::Read(read) = read_whole(input) else {
-        os::fail(b"runplan: standard input");
-        return true;
-    };
-    match look_behind(read) {
-        Behind::Failed => {
-            os::fail(b"runplan: standard input");
-            true
+fn run_input(
+    rt: &(impl io::Input + Print + Eprint),
+    input: &mut [u8],
+    memory: &mut [u32],
+    output: &mut [u8],
+) -> io::Result<()> {
+    let read = match read_whole(rt, input) {
+        Input::Read(read) => read,
+        Input::Failed(error) => {
+            tell_unread(rt, error);
+            return Ok(());
         }
-        Behind::More => write_all(STDOUT_FILENO, b"input too long\n"),
-        Behind::Nothing => run_text(&input[0..read], memory, output),
+    };
+    match look_behind(rt, read) {
+        Behind::Failed(error) => {
+            tell_unread(rt, error);
+            Ok(())
+        }
+        Behind::More => println!(rt; "input too long"),
+        Behind::Nothing => run_text(rt, &input[0..read], memory, output),
     }
 }
 
 // Lends each buffer as a slice. Behind a reference its length is known by its type; in `main` a proof would go through
 // its zeros one by one.
-fn lend(input: &mut [u8; TEXT], memory: &mut [u32; MEMORY], output: &mut [u8; TEXT]) {
-    if !run_input(input, memory, output) {
-        os::fail(b"runplan: standard output");
+fn lend(
+    rt: &(impl io::Input + Print + Eprint),
+    input: &mut [u8; TEXT],
+    memory: &mut [u32; MEMORY],
+    output: &mut [u8; TEXT],
+) {
+    if let Err(error) = run_input(rt, input, memory, output) {
+        let _ = eprintln!(rt; "runplan: standard output: {error}");
     }
 }
 
-fn main() {
+fn main(rt: HostRuntime) {
     let mut input = [0u8; TEXT];
     let mut memory = [0u32; MEMORY];
     let mut output = [0u8; TEXT];
-    lend(&mut input, &mut memory, &mut output);
+    lend(&rt, &mut input, &mut memory, &mut output);
 }

@@ -19,14 +19,13 @@ mod report;
 ghost use Rattle.std.specs.Prelude.{◌<◌, ◌≤◌, length};
 
 use answers::of_run;
-use bytes::scan::find;
-use check::same;
 use form::{Case, READ, unpack};
 use kinds::{Cell, Place, Token};
 use lending::{all_zero, fill_memory, fill_output, untouched};
 use lines::read_input;
 use numbers::{Numbers, of_read};
 use report::{BYTES_CHANGED, DIFFERS, MALFORMED, MEMORY_LEFT, READ_RIGHT, RUN_RIGHT, Report};
+use std::io;
 
 // Room for all of the input, and more.
 const INPUT: usize = 2_097_152;
@@ -77,7 +76,7 @@ fn judge(case: Case, numbers: Numbers, written: &[u8], memory: &[u32], output: &
     if output.len() < length {
         return DIFFERS;
     }
-    if !same(&output[0..length], written) {
+    if &output[0..length] != written {
         return DIFFERS;
     }
     if !untouched(output, length) {
@@ -129,14 +128,14 @@ fn past_line(input: &[u8], at: usize) -> usize
     requires { at < length input.now }
     ensures { (at < result) × (result ≤ length input.now) }
 {
-    let end = find(input, at, input.len(), b'\n');
-    if end < input.len() {
-        return end + 1;
+    match input[at..].iter().position(|byte| *byte == b'\n') {
+        Some(left) => at + left + 1,
+        None => input.len(),
     }
-    end
 }
 
 fn run_cases(
+    rt: &(impl Print + Eprint),
     lines: &[u8],
     room: &mut [u8; ROOM],
     memory: &mut [u32; MEMORY],
@@ -147,32 +146,32 @@ fn run_cases(
     while at < lines.len() {
         let next = past_line(lines, at);
         let outcome = run_case(&lines[at..next], room, memory, output);
-        report = report.after(outcome);
+        report = report.after(rt, outcome);
         at = next;
     }
     report
 }
 
-fn run_lines(lines: &[u8]) {
+fn run_lines(rt: &(impl Print + Eprint), lines: &[u8]) {
     let mut room = [0u8; ROOM];
     let mut memory = [0u32; MEMORY];
     let mut output = [0u8; OUTPUT];
-    let report = run_cases(lines, &mut room, &mut memory, &mut output);
-    report.print();
+    let report = run_cases(rt, lines, &mut room, &mut memory, &mut output);
+    report.print(rt);
 }
 
 // Where the input cannot be read, or fills its room and so may go on, standard error says so, and no case is run.
-fn run_input(input: &mut [u8]) {
-    let read = read_input(input);
-    run_lines(&input[0..read]);
+fn run_input(rt: &(impl io::Input + Print + Eprint), input: &mut [u8]) {
+    let read = read_input(rt, input);
+    run_lines(rt, &input[0..read]);
 }
 
 // Behind a reference the length of a buffer is known by its type; in `main` a proof would go through its zeros one by one.
-fn lend(input: &mut [u8; INPUT]) {
-    run_input(input);
+fn lend(rt: &(impl io::Input + Print + Eprint), input: &mut [u8; INPUT]) {
+    run_input(rt, input);
 }
 
-fn main() {
+fn main(rt: HostRuntime) {
     let mut input = [0u8; INPUT];
-    lend(&mut input);
+    lend(&rt, &mut input);
 }

@@ -33,21 +33,21 @@ pub struct Report {
 }
 
 // A number on a line of its own.
-fn tell(number: u32) {
-    say_count(number as u64);
-    say(b"\n");
+fn tell(rt: &(impl Print + Eprint), number: u32) {
+    say_count(rt, number as u64);
+    say(rt, b"\n");
 }
 
-fn point_out(line: u32, outcome: u32, faults: u32) {
+fn point_out(rt: &(impl Print + Eprint), line: u32, outcome: u32, faults: u32) {
     if outcome < DIFFERS {
         return;
     }
     if POINTED_OUT <= faults {
         return;
     }
-    say(b"line and fault:\n");
-    tell(line);
-    tell(outcome);
+    say(rt, b"line and fault:\n");
+    tell(rt, line);
+    tell(rt, outcome);
 }
 
 // The count, with one more if something is so.
@@ -69,9 +69,9 @@ impl Report {
     }
 
     // The report with one line more.
-    pub fn after(self, outcome: u32) -> Self {
+    pub fn after(self, rt: &(impl Print + Eprint), outcome: u32) -> Self {
         let lines = counted(self.lines, true);
-        point_out(lines, outcome, self.faults);
+        point_out(rt, lines, outcome, self.faults);
         Self {
             lines,
             read: counted(self.read, outcome == READ_RIGHT),
@@ -83,16 +83,17 @@ impl Report {
         }
     }
 
-    pub fn print(self) {
+    pub fn print(self, rt: &(impl Print + Eprint)) {
         say(
+            rt,
             b"lines, READ as expected, RUN as expected, faults, that differ, that change output bytes, that leave memory:\n",
         );
-        tell(self.lines);
-        tell(self.read);
-        tell(self.run);
-        tell(self.faults);
-        tell(self.differ);
-        tell(self.bytes_changed);
-        tell(self.memory_left);
+        tell(rt, self.lines);
+        tell(rt, self.read);
+        tell(rt, self.run);
+        tell(rt, self.faults);
+        tell(rt, self.differ);
+        tell(rt, self.bytes_changed);
+        tell(rt, self.memory_left);
     }
 }
