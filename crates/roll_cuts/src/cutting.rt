@@ -2,7 +2,6 @@
 ghost use Rattle.std.specs.Prelude.{◌<◌, ◌≤◌, length};
 
 use crate::entering::{LISTED, ROLL, enter, start_of, with_line};
-use bytes::scan::find;
 use roll_rules::RollNumbers;
 use std::num::wrapping_add_u32;
 use telling::{say, say_count};
@@ -28,11 +27,10 @@ pub fn past_line(lines: &[u8], at: usize) -> usize
     requires { at < length lines.now }
     ensures { (at < result) × (result ≤ length lines.now) }
 {
-    let end = find(lines, at, lines.len(), b'\n');
-    if end < lines.len() {
-        return end + 1;
+    match lines[at..].iter().position(|byte| *byte == b'\n') {
+        Some(left) => at + left + 1,
+        None => lines.len(),
     }
-    end
 }
 
 // What no bytes are to read as.
@@ -57,19 +55,19 @@ pub fn same_numbers(one: RollNumbers, other: RollNumbers) -> bool {
 }
 
 // A number on a line of its own.
-pub fn tell(number: u32) {
-    say_count(number as u64);
-    say(b"\n");
+pub fn tell(rt: &(impl Print + Eprint), number: u32) {
+    say_count(rt, number as u64);
+    say(rt, b"\n");
 }
 
 // Points out what is wrong, and where; whether nothing is, as a count.
-pub fn right_or_told(wrong: u32, place: u32) -> u32 {
+pub fn right_or_told(rt: &(impl Print + Eprint), wrong: u32, place: u32) -> u32 {
     if wrong == RIGHT {
         return 1;
     }
-    say(b"fault and place:\n");
-    tell(wrong);
-    tell(place);
+    say(rt, b"fault and place:\n");
+    tell(rt, wrong);
+    tell(rt, place);
     0
 }
 
@@ -158,6 +156,7 @@ fn cut(roll: &[u8; ROLL], places: &[u32; LIST], line: &[u8], now: RollNumbers, b
 
 // How many fronts are right, of those that have these entries whole: up to the place where the next entry ends.
 fn cut_between(
+    rt: &(impl Print + Eprint),
     roll: &[u8; ROLL],
     places: &[u32; LIST],
     line: &[u8],
@@ -169,7 +168,7 @@ fn cut_between(
     let mut bytes = before.place;
     while bytes < end {
         let wrong = cut(roll, places, line, now, bytes);
-        right = wrapping_add_u32(right, right_or_told(wrong, bytes));
+        right = wrapping_add_u32(right, right_or_told(rt, wrong, bytes));
         now.place = start_of(now.place);
         bytes += 1;
     }
@@ -177,14 +176,20 @@ fn cut_between(
 }
 
 // How many fronts are right, of all that lack a byte or more. Each is gone on with by the entry of the line.
-pub fn cut_lines(lines: &[u8], roll: &[u8; ROLL], places: &[u32; LIST], line: &[u8]) -> u32 {
+pub fn cut_lines(
+    rt: &(impl Print + Eprint),
+    lines: &[u8],
+    roll: &[u8; ROLL],
+    places: &[u32; LIST],
+    line: &[u8],
+) -> u32 {
     let mut right = 0;
     let mut now = no_entries();
     let mut at = 0;
     while at < lines.len() {
         let next = past_line(lines, at);
         let then = with_line(now, &lines[at..next]);
-        right = wrapping_add_u32(right, cut_between(roll, places, line, now, then.place));
+        right = wrapping_add_u32(right, cut_between(rt, roll, places, line, now, then.place));
         now = then;
         at = next;
     }

@@ -26,6 +26,7 @@ use entering::{ROLL, enter, with_line};
 use lines::read_input;
 use roll_add::{Entered, with_entry};
 use roll_rules::{RollNumbers, Tally};
+use std::io;
 use telling::say;
 
 // More bytes than the lines have.
@@ -54,57 +55,69 @@ fn wrong_of(entered: Entered, before: RollNumbers, expected: RollNumbers) -> u32
 }
 
 // Adds the entry of a line to the roll; what the roll is then to read as.
-fn build_line(line: &[u8], roll: &mut [u8; ROLL], before: RollNumbers) -> RollNumbers {
+fn build_line(
+    rt: &(impl Print + Eprint),
+    line: &[u8],
+    roll: &mut [u8; ROLL],
+    before: RollNumbers,
+) -> RollNumbers {
     let entered = enter(line, roll, before.place);
     let expected = with_line(before, line);
-    right_or_told(wrong_of(entered, before, expected), before.place);
+    right_or_told(rt, wrong_of(entered, before, expected), before.place);
     expected
 }
 
-fn build(lines: &[u8], roll: &mut [u8; ROLL]) -> RollNumbers {
+fn build(rt: &(impl Print + Eprint), lines: &[u8], roll: &mut [u8; ROLL]) -> RollNumbers {
     let mut built = no_entries();
     let mut at = 0;
     while at < lines.len() {
         let next = past_line(lines, at);
-        built = build_line(&lines[at..next], roll, built);
+        built = build_line(rt, &lines[at..next], roll, built);
         at = next;
     }
     built
 }
 
-fn tell_all(whole: RollNumbers, right: u32) {
-    say(b"entries, jobs filed, jobs done, bytes, cuts that are right:\n");
-    tell(whole.entries);
-    tell(whole.filed);
-    tell(whole.done);
-    tell(whole.place);
-    tell(right);
+fn tell_all(rt: &(impl Print + Eprint), whole: RollNumbers, right: u32) {
+    say(
+        rt,
+        b"entries, jobs filed, jobs done, bytes, cuts that are right:\n",
+    );
+    tell(rt, whole.entries);
+    tell(rt, whole.filed);
+    tell(rt, whole.done);
+    tell(rt, whole.place);
+    tell(rt, right);
 }
 
-fn cut_roll(lines: &[u8], roll: &[u8; ROLL], bytes: u32) {
+fn cut_roll(rt: &(impl Print + Eprint), lines: &[u8], roll: &[u8; ROLL], bytes: u32) {
     let mut places = [0u32; LIST];
     let whole = read_front(roll, bytes, &mut places);
-    tell_all(whole, cut_lines(lines, roll, &places, b"f 999 {x}\n"));
+    tell_all(
+        rt,
+        whole,
+        cut_lines(rt, lines, roll, &places, b"f 999 {x}\n"),
+    );
 }
 
-fn run(lines: &[u8]) {
+fn run(rt: &(impl Print + Eprint), lines: &[u8]) {
     let mut roll = [255u8; ROLL];
-    let built = build(lines, &mut roll);
-    cut_roll(lines, &roll, built.place);
+    let built = build(rt, lines, &mut roll);
+    cut_roll(rt, lines, &roll, built.place);
 }
 
 // Where the input cannot be read, or fills its room and so may go on, standard error says so, and no entry is added.
-fn run_input(input: &mut [u8]) {
-    let read = read_input(input);
-    run(&input[0..read]);
+fn run_input(rt: &(impl io::Input + Print + Eprint), input: &mut [u8]) {
+    let read = read_input(rt, input);
+    run(rt, &input[0..read]);
 }
 
 // Behind a reference the length of a buffer is known by its type; in `main` a proof would go through its zeros one by one.
-fn lend(input: &mut [u8; INPUT]) {
-    run_input(input);
+fn lend(rt: &(impl io::Input + Print + Eprint), input: &mut [u8; INPUT]) {
+    run_input(rt, input);
 }
 
-fn main() {
+fn main(rt: HostRuntime) {
     let mut input = [0u8; INPUT];
-    lend(&mut input);
+    lend(&rt, &mut input);
 }

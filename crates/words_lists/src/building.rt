@@ -4,7 +4,6 @@
 // field is the list of no words.
 ghost use Rattle.std.specs.Prelude.{◌≤◌, length};
 
-use check::same;
 use lines::{Sign, find_sign, past_sign, put_hex};
 use stored::{NUMBER, put_counted, put_number};
 
@@ -88,7 +87,7 @@ pub fn put_list(list: &mut [u8], field: &[u8], before: List) -> List
     requires { (4 ≤ length list.old) × (before.bytes ≤ length list.old) }
     ensures { result.bytes ≤ length list.new }
 {
-    if same(field, b"-") {
+    if field == b"-".as_slice() {
         return before;
     }
     let digits = past_sign(field, 0, b"0x");

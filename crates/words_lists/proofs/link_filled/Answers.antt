@@ -1,0 +1,8 @@
+-- `link_filled`: LINK refuses a printed text that is longer than the output.
+use Rattle.std.proofs.Common.{ap, arith}
+use Rattle.numbers.specs.declared.Numbers.{Numbers}
+use Rattle.words_lists.proofs.Fits.{link_fits}
+use Rattle.words_lists.proofs.link_filled.Goals as goal
+
+pub returns : goal.returns
+returns c = omega (arith, link_fits c.link.ensures.wrote, ap (λ (n : Numbers). n.length) c.of_link.ensures)
