@@ -39,7 +39,7 @@ fault-refused bad = ap (fit cell_limit) (fault_found bad)
 
 -- and tells the same five numbers of it
 fault_told : (f : TextFault) → fault_numbers f ≡ placeless (fault_numbers f)
-fault_told f = rw (ne_eqb (fault_number f) OVERFULL (fault_number_is f).no_overfull)
+fault_told f = grind (arith, ne_eqb (fault_number f) OVERFULL (fault_number_is f).no_overfull)
 
 -- Linking by the empty list gives what READ gives, except OVERFULL's place, which is 0: the same five numbers and the same bytes
 -- a theorem of stock words
