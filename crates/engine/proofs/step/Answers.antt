@@ -1,5 +1,5 @@
 -- `step`: hunt, count, ask, rewrite.
-use Rattle.std.proofs.Common.{true, not, ap}
+use Rattle.std.proofs.Common.{arith, true, not, ap}
 use Rattle.engine.proofs.Turning.{huntable, turn-done, turn_full, turn_quota, turn_rewritable, turn_went}
 use Rattle.engine.proofs.step.Goals as goal
 
@@ -12,7 +12,7 @@ returns-then-after-outer-clause-turned c =
 
 pub returns-then-not-more-clause-turned : goal.returns-then-not-more-clause-turned
 returns-then-not-more-clause-turned c =
-    turn_quota c.hunt.ensures c.in-Ready.is _ c.size_after-after.ensures c.if-after-outer.false _ (ap not c.if-not-more.true)
+    turn_quota c.hunt.ensures c.in-Ready.is _ c.size_after-after.ensures (omega arith) _ (ap not c.if-not-more.true)
 
 pub rewrite-next-requires : goal.rewrite-next-requires
 rewrite-next-requires c =

@@ -1,5 +1,6 @@
 -- `scan`: what each call requires, and each turn of the loop, are the lemmas of `Scanning`.
-use Rattle.hunt.proofs.Scanning.{scan_first, scan_here, scan_cell, scan_next, scan_past, scan_found, scan_none}
+use Rattle.std.proofs.Common.{le_of_lt}
+use Rattle.hunt.proofs.Scanning.{scan_first, scan_here, scan_low, scan_cell, scan_next, scan_past, scan_found, scan_none}
 use Rattle.hunt.proofs.scan.Goals as goal
 
 pub loop-at-init : goal.loop-at-init
@@ -17,7 +18,7 @@ end_port-last-requires c = scan_cell c.loop-at.invariant c.loop-at-test.true
 
 pub link_of-at-requires-in-loop-at : goal.link_of-at-requires-in-loop-at
 link_of-at-requires-in-loop-at c =
-    (c.loop-at.invariant.lent, scan_next c.loop-at.invariant c.loop-at-test.true c.kind_at-kind.result _ c.end_port-last.ensures)
+    (c.loop-at.invariant.lent, search (scan_next, scan_low, le_of_lt))
 
 pub loop-at-smaller : goal.loop-at-smaller
 loop-at-smaller c =

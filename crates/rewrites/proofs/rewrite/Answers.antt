@@ -1,4 +1,5 @@
 -- `rewrite`: the operator leaves the plan, then its rule is made.
+use Rattle.std.proofs.Common.{rules}
 use Rattle.rewrites.proofs.Rewriting.{finds_a, finds_b, finds_c, finds_d, makes_a, makes_b, makes_c, makes_d, newer_lent, operator_lent}
 use Rattle.rewrites.proofs.rewrite.Goals as goal
 
@@ -12,10 +13,10 @@ pub rule_b-requires : goal.rule_b-requires
 rule_b-requires c = finds_b c.requires.rewrites c.remove_operator-rest.ensures c.requires.lent c.in-B.is
 
 pub rule_c-requires : goal.rule_c-requires
-rule_c-requires c = finds_c c.requires.rewrites c.remove_operator-rest.ensures c.requires.lent c.in-C.is
+rule_c-requires c = search (rules, finds_c c.requires.rewrites c.remove_operator-rest.ensures c.requires.lent)
 
 pub rule_d-requires : goal.rule_d-requires
-rule_d-requires c = finds_d c.requires.rewrites c.remove_operator-rest.ensures c.requires.lent c.in-D.is
+rule_d-requires c = search (rules, finds_d c.requires.rewrites c.remove_operator-rest.ensures c.requires.lent)
 
 pub returns-in-A-clause-rewritten : goal.returns-in-A-clause-rewritten
 returns-in-A-clause-rewritten c = λ f q q' r. makes_a r c.remove_operator-rest.ensures c.in-A.is c.rule_a.ensures.changed
