@@ -1,12 +1,13 @@
 // The program behind `./runplan`: it reads a plan from standard input, runs it, and writes what is left of it and the five numbers of the
 // answer. The quota is 10,000, and there are 4,096 cells. The text comes first, then a line with the numbers. After a refusal there is no
-// text, and the first line is empty. What cannot be read or written is said on standard error.
+// text, and the first line is empty. What cannot be read or written is said on standard error, and the status is then 1.
 #![tactic(auto)]
 
 use answers::of_run;
 use input::{Input, read_whole};
 use kinds::Cell;
 use std::io;
+use std::process::ExitCode;
 use telling::{tell_five, tell_printed};
 
 const QUOTA: u32 = 10_000;
@@ -56,46 +57,58 @@ fn tell_unread(rt: &impl Eprint, error: io::Error) {
     let _ = eprintln!(rt; "runplan: standard input: {error}");
 }
 
-// An input that could not be read to its end is not run, and what failed is said on standard error.
+// Whether the input could be read; an error where not all could be written. An input that could not be read to its end is not run, and what
+// failed is said on standard error.
 fn run_input(
     rt: &(impl io::Input + Print + Eprint),
     input: &mut [u8],
     memory: &mut [u32],
     output: &mut [u8],
-) -> io::Result<()> {
+) -> io::Result<bool> {
     let read = match read_whole(rt, input) {
         Input::Read(read) => read,
         Input::Failed(error) => {
             tell_unread(rt, error);
-            return Ok(());
+            return Ok(false);
         }
     };
     match look_behind(rt, read) {
         Behind::Failed(error) => {
             tell_unread(rt, error);
-            Ok(())
+            Ok(false)
         }
-        Behind::More => println!(rt; "input too long"),
-        Behind::Nothing => run_text(rt, &input[0..read], memory, output),
+        Behind::More => {
+            println!(rt; "input too long")?;
+            Ok(true)
+        }
+        Behind::Nothing => {
+            run_text(rt, &input[0..read], memory, output)?;
+            Ok(true)
+        }
     }
 }
 
 // Lends each buffer as a slice. Behind a reference its length is known by its type; in `main` a proof would go through
-// its zeros one by one.
+// its zeros one by one. The status is 1 where not all could be read and written.
 fn lend(
     rt: &(impl io::Input + Print + Eprint),
     input: &mut [u8; TEXT],
     memory: &mut [u32; MEMORY],
     output: &mut [u8; TEXT],
-) {
-    if let Err(error) = run_input(rt, input, memory, output) {
-        let _ = eprintln!(rt; "runplan: standard output: {error}");
+) -> ExitCode {
+    match run_input(rt, input, memory, output) {
+        Ok(true) => ExitCode::SUCCESS,
+        Ok(false) => ExitCode::FAILURE,
+        Err(error) => {
+            let _ = eprintln!(rt; "runplan: standard output: {error}");
+            ExitCode::FAILURE
+        }
     }
 }
 
-fn main(rt: HostRuntime) {
+fn main(rt: HostRuntime) -> ExitCode {
     let mut input = [0u8; TEXT];
     let mut memory = [0u32; MEMORY];
     let mut output = [0u8; TEXT];
-    lend(&rt, &mut input, &mut memory, &mut output);
+    lend(&rt, &mut input, &mut memory, &mut output)
 }
