@@ -32,8 +32,8 @@ module _ (list spans name : List ℕ) where
         go zero g e = absurd (omega arith)
         go (suc n) g e =
             let below : suc n - 1 ≡ n = omega arith in
-            let Told_Below = subst (λ k. r ≡ same name (word_of list spans k).name) below e in
-            rw below (ap (λ b. cond b (Listed n) (seek list spans n (percent ∷ name))) (sym Told_Below))
+            let told_below = subst (λ k. r ≡ same name (word_of list spans k).name) below e in
+            rw below (ap (λ b. cond b (Listed n) (seek list spans n (percent ∷ name))) (sym told_below))
 
     pub seek-here : r ≡ true → Listed (rank - 1) ≡ seek list spans rank (percent ∷ name)
     seek-here e = sym (step ∙ ap (λ b. cond b (Listed (rank - 1)) (seek list spans (rank - 1) (percent ∷ name))) e)
