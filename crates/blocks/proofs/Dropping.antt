@@ -63,13 +63,13 @@ module _ {m₀ : List ℕ} {n first stop from free₀ : ℕ} {m : List ℕ} {por
           frees = ap (first_free free) same ∙ h.frees;
         }
 
-    -- a start's cell is freed
-    module _ (m' : List ℕ) (kept : (k : ℕ) → whole n m' k ≡ set (whole n m k) (2 * port + 1) free) (beside : Aside n m m') where
+    -- whatever a start's cell keeps, the way goes on
+    module _ (m' : List ℕ) (v : ℕ) (kept : (k : ℕ) → whole n m' k ≡ set (whole n m k) (2 * port + 1) v) where
       way' : Way (whole n m' first) n stop next (ahead w n stop (link w port))
       way' =
           let on = here.way in
           rw (kept first, onward) record {
-            leads = leads_beside w stop (link w port) (ahead w n stop (link w port)) port free here.past on.leads;
+            leads = leads_beside w stop (link w port) (ahead w n stop (link w port)) port v here.past on.leads;
             once = on.once;
             below = on.below;
           }
@@ -77,17 +77,19 @@ module _ {m₀ : List ℕ} {n first stop from free₀ : ℕ} {m : List ℕ} {por
       pub start_less : length (ahead (whole n m' first) n stop next) < length (ahead w n stop port)
       start_less = omega (arith, ap length here.on, ap length (way_ahead way'))
 
+    -- a start's cell is freed
+    module _ (m' : List ℕ) (kept : (k : ℕ) → whole n m' k ≡ set (whole n m k) (2 * port + 1) free) (beside : Aside n m m') where
       pub drop-start : port % 2 ≡ 0 → (top : ℕ) → top ≡ port / 2 → Dropping m₀ n first stop from free₀ m' next top
       unfolding freed first_free
       drop-start even top e =
           let cs = to_free w n stop (link w port) in
           let all : to_free w n stop port ≡ port / 2 ∷ cs = ap starts here.on ∙ starts_even port _ even in
-          let rest : to_free (whole n m' first) n stop next ≡ cs = ap starts (way_ahead way') in
+          let rest : to_free (whole n m' first) n stop next ≡ cs = ap starts (way_ahead (way' m' free kept)) in
           let this : start (port / 2) ≡ port = omega arith in
           rw e record {
             lent = lent-kept h.lent beside.as_long;
             aside = aside_on h.aside beside;
-            way = way_from way';
+            way = way_from (way' m' free kept);
             numbers =
                 ap (freed (whole n m' first) (port / 2)) rest
                 ∙ ap (λ v. freed v (port / 2) cs) (kept first ∙ ap (λ p. set w (2 * p + 1) free) (sym this))

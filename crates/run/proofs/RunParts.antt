@@ -1,12 +1,12 @@
 -- RUN, part by part. What the run in the memory ended with is what the definition's run of the accepted plan gives, since no run looks at a
 -- label. That plan is never too long to be printed. What is printed is what the definition writes.
-use Prim.Native.Nat.{ℕ, ◌≤◌, ◌<◌}
+use Prim.Native.Nat.{ℕ, ◌*◌, ◌≤◌, ◌<◌}
 use mathlib.Core.Path.{◌≡◌, refl, ap, ap₂, sym, ◌∙◌, subst}
 use mathlib.Core.List.{List}
 use native.Mathlib.Omega.{arith}
 use native.Mathlib.Nat.{le_trans, mul-le-mul_left}
 use lib.ListN.{length, replicate}
-use Rattle.kinds.specs.Limits.{cell_limit, standard, text_limit, token_limit}
+use Rattle.kinds.specs.Limits.{cell_limit, cell_numbers, standard, text_limit, token_limit}
 use Rattle.kinds.specs.declared.Cell.{Cell}
 use Rattle.plan.specs.Plan.{Plan, bare, cells, print}
 use Rattle.plan.specs.Reading.{ACCEPTED, accept, read}
@@ -177,12 +177,12 @@ module _ (text : List ℕ) (n quota : ℕ) (out : List ℕ) where
 
 -- what a run stands on
 pub accepted_cell : (text : List ℕ) (n : ℕ) → length text ≤ text_limit → n ≤ cell_limit → {a : ToldAcceptance} → a ≡ acceptance_told (accept standard n text)
-    → {outer : Cell} {c l : ℕ} (m : List ℕ) → outer.0 ≡ n → n ≡ quarter (length m) → a ≡ Accepted c l → TextAccepted text m outer.0 c
+    → {outer : Cell} {c l : ℕ} (m : List ℕ) → outer.0 ≡ n → cell_numbers * n ≤ length m → a ≡ Accepted c l → TextAccepted text m outer.0 c
 accepted_cell text n short few told m is lent e =
     let found = told_plan n text told e in
     rw is
     (record {
-      lent = record { room = omega arith; few = few };
+      lent = record { room = lent; few = few };
       short = short;
       plan = found.plan;
       reads = (accepted_text standard n text found.accepted).reads;

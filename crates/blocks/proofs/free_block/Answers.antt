@@ -15,7 +15,7 @@ keep_cell-requires c = (c.loop-at.invariant.lent, drop_low c.loop-at.invariant c
 
 pub loop-at-smaller-then-not-closes : goal.loop-at-smaller-then-not-closes
 loop-at-smaller-then-not-closes c =
-    start_less c.loop-at.invariant c.loop-at-test.true _ c.link_of-next.ensures _ c.keep_cell.ensures.kept c.keep_cell.ensures.aside
+    start_less c.loop-at.invariant c.loop-at-test.true _ c.link_of-next.ensures _ _ c.keep_cell.ensures.kept
 
 pub loop-at-preserved-then-not-closes : goal.loop-at-preserved-then-not-closes
 loop-at-preserved-then-not-closes c =

@@ -20,15 +20,15 @@ pub link_of-at-requires-in-loop-at : goal.link_of-at-requires-in-loop-at
 link_of-at-requires-in-loop-at c =
     (c.loop-at.invariant.lent, search (scan_next, scan_low, le_of_lt))
 
-pub loop-at-smaller : goal.loop-at-smaller
-loop-at-smaller c =
-    (scan_past c.loop-at.invariant c.loop-at-test.true _ c.kind_at-kind.ensures _ c.ready_at.ensures c.in-Nothing.is
-    _ _ c.end_port-last.ensures c.link_of-at-in-loop-at.ensures).1
-
 pub loop-at-preserved : goal.loop-at-preserved
 loop-at-preserved c =
     (scan_past c.loop-at.invariant c.loop-at-test.true _ c.kind_at-kind.ensures _ c.ready_at.ensures c.in-Nothing.is
     _ _ c.end_port-last.ensures c.link_of-at-in-loop-at.ensures).0
+
+pub loop-at-smaller : goal.loop-at-smaller
+loop-at-smaller c =
+    (scan_past c.loop-at.invariant c.loop-at-test.true _ c.kind_at-kind.ensures _ c.ready_at.ensures c.in-Nothing.is
+    _ _ c.end_port-last.ensures c.link_of-at-in-loop-at.ensures).1
 
 pub returns : goal.returns
 returns c = scan_none c.loop-at.invariant c.loop-at-test.false _ c.close-end.ensures

@@ -1,5 +1,6 @@
 -- `judge_entries`: an entry that is torn or breaks a rule ends the walk, and any other is counted.
-use Rattle.std.proofs.Common.{rules}
+use Rattle.std.proofs.Common.{rules, arith, refl, ap}
+use Rattle.roll_rules.specs.declared.Sums.{Sums}
 use Rattle.roll_read.proofs.Judging.{judged-broken, judged-first, judged_less, judged-next, judged_on, judged_torn}
 use Rattle.roll_read.proofs.judge_entries.Goals as goal
 
@@ -18,7 +19,13 @@ overflow_cast-end c =
     let short = c.loop-next.invariant.short in search rules
 
 pub loop-next-smaller : goal.loop-next-smaller
-loop-next-smaller c = judged_less c.loop-next.invariant c.judge_entry.ensures c.in-Fine.is c.with_entry-sums.ensures
+loop-next-smaller c =
+    omega (
+      arith,
+      judged_less c.loop-next.invariant c.judge_entry.ensures c.in-Fine.is refl,
+      judged-next c.loop-next.invariant c.judge_entry.ensures c.in-Fine.is,
+      ap (λ (x : Sums). x.end) c.with_entry-sums.ensures,
+    )
 
 pub loop-next-preserved : goal.loop-next-preserved
 loop-next-preserved c = judged_on c.loop-next.invariant c.judge_entry.ensures c.in-Fine.is c.with_entry-sums.ensures

@@ -1,5 +1,5 @@
 -- `run_uncleared`: 11, 12, a text that is not read, or the run of the accepted text.
-use Rattle.std.proofs.Common.{arith, refl}
+use Rattle.std.proofs.Common.{arith}
 use Rattle.run.proofs.RunParts.{accepted_cell, refused_arena, refused-text, refused_too_long, wrote_run}
 use Rattle.run.proofs.run_uncleared.Goals as goal
 
@@ -10,7 +10,7 @@ pub returns-then-lent-gt-LIMIT-clause-written : goal.returns-then-lent-gt-LIMIT-
 returns-then-lent-gt-LIMIT-clause-written c = refused_arena _ _ _ _ c.if-text-gt-LIMIT.false (omega arith)
 
 pub run_accepted-requires : goal.run_accepted-requires
-run_accepted-requires c = accepted_cell _ _ c.if-text-gt-LIMIT.false (omega arith) c.accept.ensures _ c.new.ensures refl c.in-Accepted.is
+run_accepted-requires c = accepted_cell _ _ c.if-text-gt-LIMIT.false (omega arith) c.accept.ensures _ c.new.ensures (omega arith) c.in-Accepted.is
 
 pub returns-in-NotRead-clause-written : goal.returns-in-NotRead-clause-written
 returns-in-NotRead-clause-written c = refused-text _ _ _ _ c.if-text-gt-LIMIT.false (omega arith) c.accept.ensures c.in-NotRead.is
