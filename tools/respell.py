@@ -46,7 +46,7 @@ def kit_names(text):
     return names
 
 
-def declared(text, path):
+def declared(text):
     """(definitions, lemmas, fields and constructors, generated) that a file declares."""
     defs, lemmas, fields, made = set(), set(), set(), set()
     block = None
@@ -112,7 +112,7 @@ def make_map():
     texts = {f: open(f).read() for f in files('crates/*/specs/**/*.antt', 'crates/*/proofs/**/*.antt')}
     kits = {}
     for f, t in texts.items():
-        d, l, x, g = declared(t, f)
+        d, l, x, g = declared(t)
         defs |= d; lemmas |= l; fields |= x
         if f.endswith('/Proof.antt'):
             made |= g
@@ -122,7 +122,6 @@ def make_map():
     for t in texts.values():
         operators.update(re.findall(r'◌([a-z][\w-]*)◌', t))
     words = {snake(d) for d in defs} | {snake(d) for d in operators} | KIT_WORDS
-    words |= {w for w in lemmas if False}
     out = {}
     for f, t in texts.items():
         code = code_of(t)
@@ -151,7 +150,7 @@ def make_map():
     return out, texts, kits
 
 
-def respelled(text, names, kit, code_only=None):
+def respelled(text, names, kit):
     def sub(m):
         n = m.group()
         return n if n in kit else names.get(n, n)
