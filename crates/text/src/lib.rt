@@ -21,23 +21,18 @@ pub fn class_of(byte: u8) -> Class
 fn is_annotation(text: &[u8], from: usize) -> bool
     ensures { result ≡ annotation (drop from text.now) }
 {
-    if text.len() <= from {
-        return false;
-    }
-    text[from] == b'&'
+    text.get(from) == Some(&b'&')
 }
 
 // Whether a mark begins at a place outside tokens: SP, LF, or an annotation. All of them mean nothing.
+#[tactic(auto, unfolding(plan::specs::Reading::mark))]
 pub fn is_mark(text: &[u8], at: usize) -> bool
     requires { at < length text.now }
     ensures { result ≡ mark (class (get_or text.now at 0)) (drop (at + 1) text.now) }
 {
     match class_of(text[at]) {
-        Class::Operator(_) => false,
-        Class::Open => false,
-        Class::Close => false,
         Class::Brace => is_annotation(text, at + 1),
         Class::Blank => true,
-        Class::Bad => false,
+        Class::Operator(_) | Class::Open | Class::Close | Class::Bad => false,
     }
 }
