@@ -2,7 +2,7 @@
 -- bytes are still to come, and a value that has room for them.
 use Prim.Native.Nat.{ℕ, zero, suc, ◌+◌, ◌*◌, ◌-◌, ◌^◌, ◌≤◌, ◌<◌}
 use mathlib.Core.Path.{◌≡◌, refl}
-use mathlib.Core.Option.{none, some}
+use Rattle.std.specs.Prelude.{None as none, Some as some}
 use mathlib.Core.List.{List}
 use native.Mathlib.Nat.{mul-le-mul_right, mul-le-mul_left, mul_assoc, mul-one, pow-succ', one-le-pow, not-suc-le-zero}
 use native.Mathlib.Numerals.{sub-one}

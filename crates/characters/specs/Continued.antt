@@ -1,6 +1,6 @@
 -- What the code's `Continued` says of a character's value, and for how many more bytes a value has room.
 use Rattle.std.specs.Prelude.{ℕ, ◌+◌, ◌*◌, ◌^◌, ◌≤◌}
-use Rattle.std.proofs.Math.Option.{Option, none, some}
+use Rattle.std.specs.Prelude.{Option, None as none, Some as some}
 use Rattle.characters.specs.declared.Continued.{Continued}
 use Rattle.characters.specs.declared.Continued.TheVariants.{Value, Missing}
 

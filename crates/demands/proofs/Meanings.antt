@@ -2,7 +2,7 @@
 -- by a run prints as a text that reads back as the same plan.
 use Prim.Native.Nat.{ℕ, zero, suc, ◌*◌, ◌≤◌}
 use mathlib.Core.Path.{◌≡◌, refl, ap, sym, subst, ◌∙◌}
-use mathlib.Core.Option.{some}
+use Rattle.std.specs.Prelude.{Some}
 use mathlib.Core.List.{List}
 use native.Mathlib.Nat.{le_trans}
 use native.Mathlib.Omega.{arith}
@@ -56,7 +56,7 @@ reads_with_more {n} {text} m more within g =
       same = g.same;
     }
 
-some_injective : {r s : Bare} → some r ≡ some s → r ≡ s
+some_injective : {r s : Bare} → Some r ≡ Some s → r ≡ s
 some_injective e = cc
 
 leads_one : (steps : ℕ) (p q q' : Bare) → Leads steps p q → Leads steps p q' → q ≡ q'

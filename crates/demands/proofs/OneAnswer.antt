@@ -5,7 +5,7 @@ use Prim.Native.Nat.{ℕ, zero, suc, ◌<◌}
 use mathlib.Core.Path.{◌≡◌, refl, ap, sym, subst, ◌∙◌}
 use mathlib.Core.Bool.{Bool, true, false}
 use mathlib.Core.Logic.{◌⊎◌, inl, inr}
-use mathlib.Core.Option.{Option, none, some}
+use Rattle.std.specs.Prelude.{Option, None, Some}
 use mathlib.Core.List.{List}
 use native.Mathlib.Nat.{le_antisymm}
 use native.Mathlib.Omega.{arith}
@@ -80,7 +80,7 @@ run_as_demanded call unrefused =
 
 -- so many rewrites have a part of fewer, and a next one after it
 rewrites_before : (k steps : ℕ) (p q : Bare) → Leads steps p q → k < steps
-    → (a b : Bare) × Leads k p a × (next a ≡ some b) × Leads (suc k) p b
+    → (a b : Bare) × Leads k p a × (next a ≡ Some b) × Leads (suc k) p b
 rewrites_before k zero p q h fewer = absurd (omega arith)
 rewrites_before zero (suc steps) p q h fewer = (p, h.0, refl, h.1, (h.0, h.1, refl))
 rewrites_before (suc k) (suc steps) p q h fewer =
@@ -91,13 +91,13 @@ rewrites_before (suc k) (suc steps) p q h fewer =
 next_cases : (n : ℕ) (q : Bare) → NoRuleApplies q ⊎ (NextHasMoreThan n q ⊎ NextFits n q)
 next_cases n q = by_next (next q) refl
   where
-    by_test : (q' : Bare) → next q ≡ some q' → (b : Bool) → leb (cells q') n ≡ b → NoRuleApplies q ⊎ (NextHasMoreThan n q ⊎ NextFits n q)
+    by_test : (q' : Bare) → next q ≡ Some q' → (b : Bool) → leb (cells q') n ≡ b → NoRuleApplies q ⊎ (NextHasMoreThan n q ⊎ NextFits n q)
     by_test q' h true t = inr (inr (q', h, leb-true (cells q') n t))
     by_test q' h false t = inr (inl (q', h, leb-false (cells q') n t))
 
     by_next : (x : Option Bare) → next q ≡ x → NoRuleApplies q ⊎ (NextHasMoreThan n q ⊎ NextFits n q)
-    by_next none h = inl ((finished_iff q).0 h)
-    by_next (some q') h = by_test q' h (leb (cells q') n) refl
+    by_next None h = inl ((finished_iff q).0 h)
+    by_next (Some q') h = by_test q' h (leb (cells q') n) refl
 
 module _ {n quota : ℕ} {text : List ℕ} where
   no_fewer : {number steps number₂ steps₂ : ℕ} {t t₂ : List ℕ} → AsDemanded n quota text number steps t

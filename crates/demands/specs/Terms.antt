@@ -1,7 +1,7 @@
 -- The request's words for what a caller sees (the five numbers of an answer, and the bytes in the output) and for what a text
 -- means. A plan here has no places: two plans are the same when their items are.
 use Rattle.std.specs.Prelude.{ℕ, ◌<◌, ◌≤◌, ◌≡◌, List, length, take}
-use Rattle.std.proofs.Math.Option.{some}
+use Rattle.std.specs.Prelude.{Some}
 use Rattle.kinds.specs.Limits.{cell_limit, standard}
 use Rattle.rules.specs.declared.Ending.{Ending}
 use Rattle.numbers.specs.declared.Numbers.{Numbers}
@@ -76,7 +76,7 @@ NoRuleApplies q = (q' : Bare) → q ⟶ q' → ⊥
 
 -- there is a next rewrite, and its result has more than n cells; or, in the second definition, its result fits n cells
 abbrev pub NextHasMoreThan : (n : ℕ) → Bare → Type 0
-NextHasMoreThan n q = (q' : Bare) × (next q ≡ some q') × (n < cells q')
+NextHasMoreThan n q = (q' : Bare) × (next q ≡ Some q') × (n < cells q')
 
 abbrev pub NextFits : (n : ℕ) → Bare → Type 0
-NextFits n q = (q' : Bare) × (next q ≡ some q') × (cells q' ≤ n)
+NextFits n q = (q' : Bare) × (next q ≡ Some q') × (cells q' ≤ n)

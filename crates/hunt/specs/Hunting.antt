@@ -2,7 +2,7 @@
 -- answers for one sequence (`Scanned`), a hunt for a plan (`Finds`). What they answer is what document 01's order chooses: `outer` of a
 -- sequence, `next` of a plan. Last come the tests that the code makes at a port.
 use Rattle.std.specs.Prelude.{ℕ, ◌≤◌, ◌≡◌, List, [], ◌∷◌, ◌++◌}
-use Rattle.std.proofs.Math.Option.{none, some}
+use Rattle.std.specs.Prelude.{None as none, Some as some}
 use Rattle.rules.specs.Frames.{Frame, top, within, plug, Ahead, Rule}
 use Rattle.plan.specs.Plan.{Plan, labels}
 use Rattle.plan.specs.declared.Operator.{Operator}

@@ -3,7 +3,7 @@ use Prim.Native.Nat.{ℕ, zero, suc, ◌+◌, ◌≤◌, ◌<◌}
 use mathlib.Core.Path.{◌≡◌, refl, ap, sym, ◌∙◌, subst}
 use mathlib.Core.Bool.{Bool, true, false, cond}
 use mathlib.Core.Logic.{◌↔◌}
-use mathlib.Core.Option.{Option, none, some}
+use Rattle.std.specs.Prelude.{Option, None, Some}
 use mathlib.Core.List.{List, [], ◌∷◌, ◌++◌, append-nil, append_assoc}
 use native.Mathlib.Omega.{arith}
 use native.Mathlib.Nat.{zero-add}
@@ -59,8 +59,8 @@ module _ (limit at b : ℕ) (bs : List ℕ)
   by_token : (out : Around) (here : Plan ℕ) (o : Option (List ℕ)) → class b ≡ BRACE → token_text limit bs ≡ o → Each (Found limit bs) o
       → Verdict limit at (depth out) (b ∷ bs) (go_on (after_token limit at bs o out here) then_read)
   unfolding go_on after_token mark
-  by_token out here none c e s = stopped [] bs b {at = at} refl nothing (bad_token c (first-met limit bs e)) (omega arith)
-  by_token out here (some t) c e s =
+  by_token out here None c e s = stopped [] bs b {at = at} refl nothing (bad_token c (first-met limit bs e)) (omega arith)
+  by_token out here (Some t) c e s =
       let same : annotation bs ≡ annotation t = ap annotation s.splits ∙ annotation-of limit t (close_brace ∷ s.rest) s.fine in
       rw same (kept_or_passed (annotation t) refl)
     where

@@ -11,8 +11,8 @@ use native.Mathlib.Omega.{arith}
 use lib.ListN.{length, get_or, take, drop, length-append, length-drop, take-append-drop, get_or-append}
 use lib.Seq.{get_or-append-add, length-take-le}
 use borrow.Author.Tests.{le-leb}
-use Rattle.plan.specs.declared.Character.TheVariants.{Whole}
-use Rattle.plan.specs.Token.{character, may_hold, permits, all_permitted, allowed}
+use Rattle.std.specs.Prelude.{Some}
+use Rattle.plan.specs.Token.{character, whole, may_hold, permits, all_permitted, allowed}
 use Rattle.kinds.proofs.Tests.{false_is_not_true}
 use Rattle.plan.proofs.Tokens.{permits-parts}
 use Rattle.plan.proofs.Utf8.{character-bytes, character_frame, character-one, character_width}
@@ -20,23 +20,23 @@ use Rattle.plan.proofs.Utf8.{character-bytes, character_frame, character-one, ch
 -- whole characters that a token may hold
 pub data Taken : List ℕ → Type 0 where
   none_yet : Taken []
-  further : (u c : List ℕ) {x : ℕ} → Taken u → character c ≡ Whole x (length c) → may_hold x ≡ true → Taken (u ++ c)
+  further : (u c : List ℕ) {x : ℕ} → Taken u → character c ≡ Some (whole x (length c)) → may_hold x ≡ true → Taken (u ++ c)
 
-own_length : (bs : List ℕ) {x w : ℕ} → character bs ≡ Whole x w → length (take w bs) ≡ w
+own_length : (bs : List ℕ) {x w : ℕ} → character bs ≡ Some (whole x w) → length (take w bs) ≡ w
 own_length bs {x} {w} e = length-take-le w bs (character_width bs e).1
 
 -- a character's own bytes are that character, whatever comes after them
 own_bytes :
-    (bs rest : List ℕ) {x w : ℕ} → character bs ≡ Whole x w →
-    character (take w bs ++ rest) ≡ Whole x (length (take w bs))
+    (bs rest : List ℕ) {x w : ℕ} → character bs ≡ Some (whole x w) →
+    character (take w bs ++ rest) ≡ Some (whole x (length (take w bs)))
 own_bytes bs rest {x} {w} e = character_frame (take w bs) (drop w bs) rest (rw (take-append-drop, own_length bs e) e)
 
-pub extended : (bs rest : List ℕ) {x w : ℕ} → character bs ≡ Whole x w → character (bs ++ rest) ≡ Whole x w
+pub extended : (bs rest : List ℕ) {x w : ℕ} → character bs ≡ Some (whole x w) → character (bs ++ rest) ≡ Some (whole x w)
 extended bs rest {x} {w} e =
     rw (← append_assoc, take-append-drop, own_length bs e) at (own_bytes bs (drop w bs ++ rest) e)
 
 pub scanned_step :
-    (u v : List ℕ) {x w : ℕ} → Taken u → character v ≡ Whole x w → may_hold x ≡ true → Taken (u ++ take w v)
+    (u v : List ℕ) {x w : ℕ} → Taken u → character v ≡ Some (whole x w) → may_hold x ≡ true → Taken (u ++ take w v)
 scanned_step u v {x} {w} s e h = further u (take w v) s (rw append-nil at (own_bytes v [] e)) h
 
 -- what has been taken does not matter for what is permitted after it: the rest of a character, a character, any number
@@ -46,7 +46,7 @@ passed_over [] rest = refl
 passed_over (b ∷ c) rest = passed_over c rest
 
 one_passed :
-    (c rest : List ℕ) {x : ℕ} → character c ≡ Whole x (length c) → may_hold x ≡ true →
+    (c rest : List ℕ) {x : ℕ} → character c ≡ Some (whole x (length c)) → may_hold x ≡ true →
     all_permitted 0 (c ++ rest) ≡ all_permitted 0 rest
 unfolding all_permitted permits
 one_passed [] rest e h = absurd (omega (arith, character_width [] e))
@@ -94,7 +94,7 @@ pub permitted_taken : (t : List ℕ) → all_permitted 0 t ≡ true → Taken t
 permitted_taken t e = taken_then (length t) [] t (omega arith) none_yet e
 
 -- a byte that is a character which a token may not hold is not among what has been taken
-one-not_held : (c : List ℕ) {x : ℕ} → character c ≡ Whole x (length c) → may_hold x ≡ true
+one-not_held : (c : List ℕ) {x : ℕ} → character c ≡ Some (whole x (length c)) → may_hold x ≡ true
     → (b : ℕ) → b < 128 → may_hold b ≡ false → (i : ℕ) → i < length c → get_or c i 0 ≢ b
 one-not_held [] e h b low unheld i l z = absurd (omega arith)
 one-not_held (a ∷ c) {x} e h b low unheld zero l z =

@@ -4,7 +4,7 @@ use Prim.Native.Nat.{ℕ, zero, suc, ◌+◌, ◌-◌, ◌≤◌, ◌<◌}
 use mathlib.Core.Path.{◌≡◌, refl, ap, ap₂, sym, ◌∙◌, subst}
 use mathlib.Core.Logic.{◌≢◌, ◌⊎◌, inl, inr, ◌↔◌}
 use mathlib.Core.Bool.{Bool, true, false, cond}
-use mathlib.Core.Option.{Option, none, some}
+use Rattle.std.specs.Prelude.{Option, None, Some}
 use mathlib.Core.List.{List, [], ◌∷◌, ◌++◌, append_assoc}
 use native.Mathlib.Decide.{dec_le}
 use native.Mathlib.Nat.{add-zero, sub-zero}
@@ -14,11 +14,10 @@ use lib.ListN.{length, get_or, take, drop, length-append, length-drop, take-appe
 use lib.Seq.{length-take-le, drop_at, drop-append-add, get_or_at, get_or-append-add, get_or-drop}
 use borrow.Author.Tests.{eqb-true, eqb-false, ne_eqb, ltb-true, ltb-false}
 use Rattle.plan.specs.declared.Character.{Character}
-use Rattle.plan.specs.declared.Character.TheVariants.{Whole, Malformed}
 use Rattle.plan.specs.declared.TokenFault.{TokenFault}
 use Rattle.plan.specs.declared.TokenFault.TheVariants.{Empty, Long, BadUtf8, Forbidden, InnerBrace}
 use Rattle.plan.specs.Plan.{open_brace, close_brace}
-use Rattle.plan.specs.Token.{all_permitted, character, may_hold, token_text}
+use Rattle.plan.specs.Token.{all_permitted, character, may_hold, token_text, whole}
 use Rattle.plan.specs.TokenFaults.{NoneBefore, CharacterAt, first, behind, NeverHeld, FaultAt, nothing_between, token_too_long, text_ends, no_character, never_held, inner_brace, FirstFault, Met, met, unheld, meet, first_fault}
 use Rattle.plan.specs.Pieces.{Found}
 use Rattle.plan.proofs.MayHold.{beyond, closing, control, late_control, opening, printing, replacement}
@@ -26,7 +25,7 @@ use Rattle.plan.proofs.Options.{Each, some_is_not_none}
 use Rattle.kinds.proofs.Tests.{false_is_not_true, never}
 use Rattle.plan.proofs.Tokens.{allowed-parts, token_text-at, token_text_finds}
 use Rattle.plan.proofs.Taken.{Taken, none_yet, further, byte_not_held, extended, permitted_taken, scanned_allowed, scanned_step}
-use Rattle.plan.proofs.Utf8.{character-bytes, character_high, character_low, character-one, character_width}
+use Rattle.plan.proofs.Utf8.{character-bytes, character_high, character_low, character-one, character_width, same_character}
 
 -- what no token may hold, its braces aside, is what `may_hold` refuses
 never_may_hold : (v : ℕ) → NeverHeld v → may_hold v ≡ false
@@ -47,7 +46,7 @@ unheld_never v h o c = go (ltb v 0x20) refl (ltb v 0x7F) refl (ltb 0x9F v) refl 
 -- every fault stands before the first `}`, an empty token's at it
 
 -- no byte of a character other than a `}` is a `}`
-character_no_brace : (bs : List ℕ) {v width : ℕ} → character bs ≡ Whole v width → v ≢ close_brace → NoneBefore bs width
+character_no_brace : (bs : List ℕ) {v width : ℕ} → character bs ≡ Some (whole v width) → v ≢ close_brace → NoneBefore bs width
 character_no_brace [] e n i l z = absurd (omega (arith, character_width [] e))
 character_no_brace (b ∷ bs) e n zero l z = n ((character-one b bs e (omega arith)).0 ∙ z)
 character_no_brace (b ∷ bs) e n (suc i) l z = absurd (omega (arith, character-bytes b bs e (suc i) (omega arith) l))
@@ -79,15 +78,15 @@ empty_first (never_held s e n) h = never cc
 empty_first (inner_brace l n e) h = never cc
 
 -- behind one character the next begins, and none within it
-one_behind : (c rest : List ℕ) {x : ℕ} → character c ≡ Whole x (length c) → {j : ℕ} → CharacterAt (c ++ rest) j
+one_behind : (c rest : List ℕ) {x : ℕ} → character c ≡ Some (whole x (length c)) → {j : ℕ} → CharacterAt (c ++ rest) j
     → (j ≡ 0) ⊎ ((length c ≤ j) × CharacterAt rest (j - length c))
 one_behind c rest e first = inl refl
 one_behind c rest {x} e (behind {i} {v} {width = w} s is n) = go (one_behind c rest e s)
   where
     go : (i ≡ 0) ⊎ ((length c ≤ i) × CharacterAt rest (i - length c)) → (i + w ≡ 0) ⊎ ((length c ≤ i + w) × CharacterAt rest (i + w - length c))
     go (inl h) =
-        let whole : Whole v w ≡ Whole x (length c) = sym (rw h at is) ∙ extended c rest e in
-        let wide : w ≡ length c = cc in
+        let same : Some (whole v w) ≡ Some (whole x (length c)) = sym (rw h at is) ∙ extended c rest e in
+        let wide : w ≡ length c = (same_character same).1 in
         let here : 0 ≡ i + w - length c = omega arith in
         inr (omega arith, subst (CharacterAt rest) here first)
     go (inr (l, s')) =
@@ -112,7 +111,7 @@ taken_behind (further u c t e h) v {j} s l =
 
 -- where a character begins in what was taken, it is one that a token may hold
 taken_at : {u : List ℕ} → Taken u → (v : List ℕ) {j : ℕ} → CharacterAt (u ++ v) j → j < length u
-    → (x : ℕ) × (w : ℕ) × (character (drop j (u ++ v)) ≡ Whole x w) × (may_hold x ≡ true)
+    → (x : ℕ) × (w : ℕ) × (character (drop j (u ++ v)) ≡ Some (whole x w)) × (may_hold x ≡ true)
 taken_at none_yet v s l = absurd (omega arith)
 taken_at (further u c {x} t e h) v {j} s l =
     let s' = rw append_assoc at s in
@@ -122,7 +121,7 @@ taken_at (further u c {x} t e h) v {j} s l =
     ]
   where
     go : length u ≤ j → (j - length u ≡ 0) ⊎ ((length c ≤ j - length u) × CharacterAt v (j - length u - length c))
-        → (y : ℕ) × (w : ℕ) × (character (drop j (u ++ c ++ v)) ≡ Whole y w) × (may_hold y ≡ true)
+        → (y : ℕ) × (w : ℕ) × (character (drop j (u ++ c ++ v)) ≡ Some (whole y w)) × (may_hold y ≡ true)
     go p (inl z) =
         let here : length u ≡ j = omega arith in
         let dropped : drop j (u ++ c ++ v) ≡ c ++ v = ap (drop j) (append_assoc u c v) ∙ drop_at u (c ++ v) j here in
@@ -144,14 +143,14 @@ module _ {u : List ℕ} (t : Taken u) (v : List ℕ) where
   within (no_character s l' e) l = let c = taken_at t v s l in never (cc)
   within (never_held {v = y} s e h) l =
       let c = taken_at t v s l in
-      let same : c.0 ≡ y = cc in
+      let same : c.0 ≡ y = (same_character (sym c.2 ∙ e)).0 in
       false_is_not_true (sym (never_may_hold y h) ∙ (rw same at c.3))
   within (inner_brace l' n e) l = absurd (none_taken open_brace (omega arith) (sym (opening open_brace refl)) l e)
 
 -- the fault of a character at which a token cannot go on
-unfoldable fault_of : Character → TokenFault
-fault_of Malformed = BadUtf8
-fault_of (Whole v width) = unheld v
+unfoldable fault_of : Option Character → TokenFault
+fault_of None = BadUtf8
+fault_of (Some c) = unheld c.value
 
 not_braces : (v : ℕ) → NeverHeld v → (v ≢ open_brace) × (v ≢ close_brace)
 not_braces v (inl h) = (λ z. omega arith, λ z. omega arith)
@@ -175,7 +174,7 @@ next_byte : (u v : List ℕ) {j : ℕ} → j ≡ length u → get_or (u ++ v) j 
 next_byte u v h = ap (λ k. get_or (u ++ v) k 0) (h ∙ sym (add-zero (length u))) ∙ get_or-append-add u v 0 0
 
 -- a character with a value below 128 is that byte
-pub low_byte : (v : List ℕ) {x w : ℕ} → x < 128 → character v ≡ Whole x w → get_or v 0 0 ≡ x
+pub low_byte : (v : List ℕ) {x w : ℕ} → x < 128 → character v ≡ Some (whole x w) → get_or v 0 0 ≡ x
 low_byte [] low e = absurd (omega (arith, character_width [] e))
 low_byte (b ∷ v) low e =
     elim (dec_le 128 b) [
@@ -266,7 +265,7 @@ module _ {limit : ℕ} {u : List ℕ} (t : Taken u) (few : length u ≤ limit - 
       ]))
 
   -- the character is good, and reaches over the last byte that there may be
-  pub reaching_first : (v : List ℕ) {x w : ℕ} → character v ≡ Whole x w → may_hold x ≡ true → limit - 2 < length u + w
+  pub reaching_first : (v : List ℕ) {x w : ℕ} → character v ≡ Some (whole x w) → may_hold x ≡ true → limit - 2 < length u + w
       → FirstFault limit (u ++ v) (limit - 2) Long
   reaching_first v {x} {w} e h far =
       let longer = scanned_step u v t e h in
@@ -276,12 +275,12 @@ module _ {limit : ℕ} {u : List ℕ} (t : Taken u) (few : length u ≤ limit - 
       (long_first longer (drop w v) (omega (arith, joined, wide)) (omega (arith, joined, wide, length-append (u ++ take w v) (drop w v)))
       (λ i l. none_in_taken longer (drop w v) i (omega (arith, joined, wide))))
 
-  pub malformed_first : (v : List ℕ) → 0 < length v → length u < limit - 2 → character v ≡ Malformed → FirstFault limit (u ++ v) (length u) BadUtf8
+  pub malformed_first : (v : List ℕ) → 0 < length v → length u < limit - 2 → character v ≡ None → FirstFault limit (u ++ v) (length u) BadUtf8
   malformed_first v some_byte room e =
       next-first t v few some_byte (λ far. absurd (omega arith))
       (no_character (taken_begins t v) (omega (arith, length-append u v)) (ap character (drop_at u v (length u) refl) ∙ e))
 
-  pub unheld-first : (v : List ℕ) {x w : ℕ} → length u < limit - 2 → character v ≡ Whole x w → may_hold x ≡ false → x ≢ close_brace
+  pub unheld-first : (v : List ℕ) {x w : ℕ} → length u < limit - 2 → character v ≡ Some (whole x w) → may_hold x ≡ false → x ≢ close_brace
       → FirstFault limit (u ++ v) (length u) (unheld x)
   unheld-first v {x} {w} room e h other =
       next-first t v few some_byte (λ far. absurd (omega arith)) (go (eqb x open_brace) refl)
@@ -342,12 +341,12 @@ found_faultless {limit} {j} {bs} {t} {f} found a =
         let empty = is ∙ low_fault (close_brace ∷ found.rest) (omega arith) close_brace (omega arith) refl ∙ brace_unheld in
         omega (arith, empty_first a' empty, parts.0)
 
-pub fault_no_token : {limit i : ℕ} {bs : List ℕ} {f : TokenFault} → FaultAt limit bs i f → token_text limit bs ≡ none
+pub fault_no_token : {limit i : ℕ} {bs : List ℕ} {f : TokenFault} → FaultAt limit bs i f → token_text limit bs ≡ None
 fault_no_token {limit} {i} {bs} a = go (token_text limit bs) (token_text_finds limit bs)
   where
-    go : (o : Option (List ℕ)) → Each (Found limit bs) o → o ≡ none
-    go none found = refl
-    go (some t) found = absurd (found_faultless found a)
+    go : (o : Option (List ℕ)) → Each (Found limit bs) o → o ≡ None
+    go None found = refl
+    go (Some t) found = absurd (found_faultless found a)
 
 -- what the reader comes upon
 
@@ -375,7 +374,7 @@ met_behind i (suc left) (suc skip) (b ∷ bs) l h =
     ∙ ap₂ (λ k m. first_fault k m 0 (drop skip bs)) (let same : suc i + skip ≡ i + suc skip = omega arith in same) (let same : left - skip ≡ suc left - suc skip = omega arith in same)
 
 -- where bytes that are no allowed token's go on with a `}`, it is the first of them
-closes_first : {limit : ℕ} (u : List ℕ) (b : ℕ) (bs : List ℕ) → Taken u → length u ≤ limit - 2 → token_text limit (u ++ b ∷ bs) ≡ none
+closes_first : {limit : ℕ} (u : List ℕ) (b : ℕ) (bs : List ℕ) → Taken u → length u ≤ limit - 2 → token_text limit (u ++ b ∷ bs) ≡ None
     → b ≡ close_brace → FirstFault limit (u ++ b ∷ bs) (length u) Empty
 closes_first {limit} [] b bs t few bad e = rw e (nothing_first limit bs)
 closes_first {limit} (a ∷ u) b bs t few bad e =
@@ -384,15 +383,15 @@ closes_first {limit} (a ∷ u) b bs t few bad e =
 
 abbrev MeetsFrom : (limit : ℕ) → (u v : List ℕ) → Type 0
 MeetsFrom limit u v =
-    Taken u → length u ≤ limit - 2 → token_text limit (u ++ v) ≡ none → Meets limit (u ++ v) (first_fault (length u) (limit - 2 - length u) 0 v)
+    Taken u → length u ≤ limit - 2 → token_text limit (u ++ v) ≡ None → Meets limit (u ++ v) (first_fault (length u) (limit - 2 - length u) 0 v)
 
 -- one character on, if what comes then meets its first fault
 module _ {limit : ℕ} (u : List ℕ) (b : ℕ) (bs : List ℕ) (rest : (u' v' : List ℕ) → length v' ≤ length bs → MeetsFrom limit u' v')
-    (t : Taken u) (few : length u ≤ limit - 2) (bad : token_text limit (u ++ b ∷ bs) ≡ none) where
+    (t : Taken u) (few : length u ≤ limit - 2) (bad : token_text limit (u ++ b ∷ bs) ≡ None) where
   abbrev v : List ℕ
   v = b ∷ bs
 
-  held : {x w : ℕ} (left : ℕ) → limit - 2 - length u ≡ suc left → character v ≡ Whole x w → may_hold x ≡ true
+  held : {x w : ℕ} (left : ℕ) → limit - 2 - length u ≡ suc left → character v ≡ Some (whole x w) → may_hold x ≡ true
       → Meets limit (u ++ v) (first_fault (suc (length u)) left (w - 1) bs)
   held {x} {w} left has e h =
       elim (dec_le w (suc left)) [
@@ -432,12 +431,18 @@ module _ {limit : ℕ} (u : List ℕ) (b : ℕ) (bs : List ℕ) (rest : (u' v' :
           met_behind (suc (length u)) left (w - 1) bs (omega arith) (omega (arith, wide.1))
           ∙ ap₂ (λ i n. first_fault i n 0 (drop (w - 1) bs)) at room ∙ ap (first_fault (length u') (limit - 2 - length u') 0) after
 
-  by_character : (left : ℕ) → limit - 2 - length u ≡ suc left → (c : Character) → character v ≡ c
+  by_character : (left : ℕ) → limit - 2 - length u ≡ suc left → (c : Option Character) → character v ≡ c
       → Meets limit (u ++ v) (meet (length u) c (λ width. first_fault (suc (length u)) left width bs))
   unfolding meet
-  by_character left has Malformed e = malformed_first t few v (omega arith) (omega arith) e
-  by_character left has (Whole x w) e = go (may_hold x) refl (eqb x close_brace) refl
+  by_character left has None e = malformed_first t few v (omega arith) (omega arith) e
+  by_character left has (Some c) e = go (may_hold x) refl (eqb x close_brace) refl
     where
+      x : ℕ
+      x = c.value
+
+      w : ℕ
+      w = c.width
+
       go : (h : Bool) → may_hold x ≡ h → (c : Bool) → eqb x close_brace ≡ c
           → Meets limit (u ++ v) (cond h (first_fault (suc (length u)) left (w - 1) bs) (met (length u) (unheld x)))
       go true h c c' = held left has e h
@@ -468,7 +473,7 @@ meets limit (suc k) u v short = meets_by u v (λ u' v' shorter. meets limit k u'
 
 -- What the reading definition gives for bytes that are no allowed token's is the first fault of the table, and nothing else is.
 -- a theorem of tokens' faults
-pub first-met : (limit : ℕ) (bs : List ℕ) → token_text limit bs ≡ none
+pub first-met : (limit : ℕ) (bs : List ℕ) → token_text limit bs ≡ None
     → FirstFault limit bs (first_fault 0 (limit - 2) 0 bs).byte (first_fault 0 (limit - 2) 0 bs).fault
 first-met limit bs bad =
     rw (sub-zero) at (meets limit (length bs) [] bs (omega arith) none_yet (omega arith) bad)
@@ -486,5 +491,5 @@ allowed_iff_faultless limit bs = (λ found i f a. found_faultless found.1 a, λ 
   where
     go : ((i : ℕ) (f : TokenFault) → FaultAt limit bs i f → ⊥) → (o : Option (List ℕ)) → token_text limit bs ≡ o → Each (Found limit bs) o
         → (t : List ℕ) × Found limit bs t
-    go none_stands none e found = absurd (none_stands _ _ (first-met limit bs e).stands)
-    go none_stands (some t) e found = (t, found)
+    go none_stands None e found = absurd (none_stands _ _ (first-met limit bs e).stands)
+    go none_stands (Some t) e found = (t, found)

@@ -3,17 +3,16 @@ use Prim.Native.Nat.{ℕ, zero, suc, ◌+◌, ◌-◌, ◌≤◌, ◌<◌}
 use mathlib.Core.Path.{◌≡◌, refl, ap, ◌∙◌}
 use mathlib.Core.Logic.{◌≢◌}
 use mathlib.Core.Bool.{Bool, true}
-use mathlib.Core.Option.{Option, none, some}
+use Rattle.std.specs.Prelude.{Option, None, Some}
 use mathlib.Core.List.{List, [], ◌∷◌, ◌++◌}
 use native.Mathlib.Omega.{arith}
 use lib.ListN.{length, get_or}
 use lib.Dec.{eqb}
 use borrow.Author.Tests.{leb-true, eqb-true, ne_eqb}
 use Rattle.plan.specs.declared.Character.{Character}
-use Rattle.plan.specs.declared.Character.TheVariants.{Whole, Malformed}
 use Rattle.plan.specs.Options.{under}
 use Rattle.plan.specs.Plan.{close_brace}
-use Rattle.plan.specs.Token.{annotation, character, may_hold, permits, all_permitted, allowed, before_brace, if_allowed, token_text}
+use Rattle.plan.specs.Token.{annotation, character, whole, may_hold, permits, all_permitted, allowed, before_brace, if_allowed, token_text}
 use Rattle.plan.specs.Pieces.{Found}
 use Rattle.plan.proofs.MayHold.{closing}
 use Rattle.plan.proofs.Options.{Each, under_each}
@@ -24,12 +23,12 @@ abbrev pub NoBrace : List ℕ → Type 0
 NoBrace [] = Unit {0}
 NoBrace (b ∷ bs) = (b ≢ close_brace) × NoBrace bs
 
-pub permits-parts : (c : Character) (after : ℕ → Bool) → permits c after ≡ true → (v : ℕ) × (w : ℕ) × (c ≡ Whole v w) × (may_hold v ≡ true) × (after (w - 1) ≡ true)
+pub permits-parts : (c : Option Character) (after : ℕ → Bool) → permits c after ≡ true → (v : ℕ) × (w : ℕ) × (c ≡ Some (whole v w)) × (may_hold v ≡ true) × (after (w - 1) ≡ true)
 unfolding permits
-permits-parts Malformed after e = false_is_not_true e
-permits-parts (Whole v w) after e =
-    let h = and_true (may_hold v) (after (w - 1)) e in
-    (v, w, refl, h.0, h.1)
+permits-parts None after e = false_is_not_true e
+permits-parts (Some c) after e =
+    let h = and_true (may_hold c.value) (after (c.width - 1)) e in
+    (c.value, c.width, refl, h.0, h.1)
 
 -- the bytes of a character already looked at are at least 128
 no_brace_from : (skip : ℕ) (t : List ℕ) → ((i : ℕ) → i < skip → 128 ≤ get_or t i 0) → all_permitted skip t ≡ true → NoBrace t
@@ -63,12 +62,12 @@ unfolding annotation
 annotation-of limit [] rest a = absurd (omega (arith, (allowed-parts limit [] a).0))
 annotation-of limit (b ∷ t) rest a = refl
 
-pub before_brace-at : (t rest : List ℕ) → NoBrace t → before_brace (t ++ close_brace ∷ rest) ≡ some t
+pub before_brace-at : (t rest : List ℕ) → NoBrace t → before_brace (t ++ close_brace ∷ rest) ≡ Some t
 unfolding before_brace under
 before_brace-at [] rest h = refl
 before_brace-at (b ∷ bs) rest h = rw (ne_eqb b close_brace h.0, before_brace-at bs rest h.1)
 
-pub token_text-at : (limit : ℕ) (t rest : List ℕ) → allowed limit t ≡ true → token_text limit (t ++ close_brace ∷ rest) ≡ some t
+pub token_text-at : (limit : ℕ) (t rest : List ℕ) → allowed limit t ≡ true → token_text limit (t ++ close_brace ∷ rest) ≡ Some t
 unfolding token_text if_allowed
 token_text-at limit t rest e = rw (before_brace-at t rest (allowed_no_brace limit t e), e)
 
@@ -88,6 +87,6 @@ unfolding token_text if_allowed
 token_text_finds limit bs = go (before_brace bs) (before_brace_splits bs)
   where
     go : (o : Option (List ℕ)) → Each (Splits bs) o → Each (Found limit bs) (if_allowed limit o)
-    go none s = tt
-    go (some t) s =
+    go None s = tt
+    go (Some t) s =
         cond_cases (Each (Found limit bs)) (allowed limit t) (λ e. record { rest = s.0; splits = s.1; fine = e }) (λ _. tt)

@@ -3,9 +3,9 @@
 -- Everything goes through `Spells bs v`: bs are all the bytes of one character, and v is its value. What it holds is linear
 -- arithmetic over the bytes, the same for every width, so the rows of the table are left to `omega`.
 use Prim.Native.Nat.{ℕ, zero, suc, ◌+◌, ◌*◌, ◌-◌, ◌≤◌, ◌<◌}
-use mathlib.Core.Path.{◌≡◌, refl, ap, subst}
+use mathlib.Core.Path.{◌≡◌, refl, ap, subst, sym, ◌∙◌}
 use mathlib.Core.Bool.{Bool, true, false, cond, ◌&&◌, ◌||◌, and-eq-true_iff}
-use mathlib.Core.Option.{Option, none, some}
+use Rattle.std.specs.Prelude.{Option, None, Some}
 use mathlib.Core.List.{List, [], ◌∷◌, ◌++◌}
 use mathlib.Core.Logic.{◌↔◌, ◌⊎◌, inl, inr, ⊎_map}
 use native.Mathlib.Omega.{arith}
@@ -16,8 +16,7 @@ use lib.Seq.{take-append_seam, get_or-take}
 use lib.Dec.{leb, ltb}
 use borrow.Author.Tests.{ltb-true, ltb-false, leb-true, lt-ltb, le-ltb, le-leb}
 use Rattle.plan.specs.declared.Character.{Character}
-use Rattle.plan.specs.declared.Character.TheVariants.{Whole, Malformed}
-use Rattle.plan.specs.Token.{follows, value, scalar, well_formed, character}
+use Rattle.plan.specs.Token.{follows, value, scalar, well_formed, character, whole}
 use Rattle.plan.specs.Rfc3629.{Range, Matches, AnyRow, table, Utf8Char}
 
 -- How many bytes follow the first, where the first byte begins and ends, and the least value that is not overlong. A byte
@@ -41,6 +40,12 @@ data Spells : List ℕ → (v : ℕ) → Type 0 where
 
 alone : (b : ℕ) → b < 0x80 → Spells (b ∷ []) b
 alone b h = spell {b = b} one (omega arith) (done (sub-zero b)) (omega arith) (inl (omega arith))
+
+-- a character has one value and one width
+pub same_character : {v w x y : ℕ} → Some (whole v w) ≡ Some (whole x y) → (v ≡ x) × (w ≡ y)
+same_character {v} {w} {x} {y} e =
+    let c : whole v w ≡ whole x y = cc in
+    (ap (λ k. k.value) c, ap (λ k. k.width) c)
 
 -- what the tests of `character` tell
 
@@ -75,9 +80,9 @@ length_following : {n v u : ℕ} {bs : List ℕ} → Following n bs v u → leng
 length_following (done e) = refl
 length_following (next h f) = ap suc (length_following f)
 
-following_value : {n v u : ℕ} {bs : List ℕ} → Following n bs v u → (rest : List ℕ) → value n v (bs ++ rest) ≡ some u
+following_value : {n v u : ℕ} {bs : List ℕ} → Following n bs v u → (rest : List ℕ) → value n v (bs ++ rest) ≡ Some u
 unfolding value follows
-following_value (done e) rest = ap some e
+following_value (done e) rest = ap Some e
 following_value (next {c = c} h f) rest = rw (le-leb 0x80 c h.0, lt-ltb c 0xC0 h.1) (following_value f rest)
 
 form_character : {n from to least : ℕ} (b : ℕ) (bs : List ℕ) → Form n from to least → (from ≤ b) × (b < to) → character (b ∷ bs) ≡ well_formed (suc n) least (value n (b - from) bs)
@@ -88,7 +93,7 @@ form_character b bs three h = rw (le-ltb b 0x80 (omega arith), le-ltb b 0xC0 (om
 form_character b bs four h =
     rw (le-ltb b 0x80 (omega arith), le-ltb b 0xC0 (omega arith), le-ltb b 0xE0 (omega arith), le-ltb b 0xF0 h.0, lt-ltb b 0xF8 h.1)
 
-spells_character : {v : ℕ} {bs : List ℕ} → Spells bs v → (rest : List ℕ) → character (bs ++ rest) ≡ Whole v (length bs)
+spells_character : {v : ℕ} {bs : List ℕ} → Spells bs v → (rest : List ℕ) → character (bs ++ rest) ≡ Some (whole v (length bs))
 unfolding well_formed
 spells_character (spell {least = least} {b = b} {v = v} {bs = bs} f h g l s) rest =
     rw (form_character b (bs ++ rest) f h, following_value g rest, length_following g, le-leb least v l, scalar_true v s)
@@ -96,8 +101,8 @@ spells_character (spell {least = least} {b = b} {v = v} {bs = bs} f h g l s) res
 -- what is read is spelled, by the bytes that it takes; said of the answer itself, so that a test in it can be split
 
 abbrev Valued : (n v : ℕ) → List ℕ → Option ℕ → Type 0
-Valued n v bs none = Unit {0}
-Valued n v bs (some u) = (n ≤ length bs) × Following n (take n bs) v u
+Valued n v bs None = Unit {0}
+Valued n v bs (Some u) = (n ≤ length bs) × Following n (take n bs) v u
 
 value_valued : (n v : ℕ) (bs : List ℕ) → Valued n v bs (value n v bs)
 unfolding value
@@ -108,12 +113,12 @@ value_valued (suc n) v (c ∷ bs) =
     either_way (Valued (suc n) v (c ∷ bs)) (follows c) (λ t. longer t (value n v' bs) (value_valued n v' bs)) (λ t. tt)
   where
     longer : follows c ≡ true → (o : Option ℕ) → Valued n (v * 64 + (c - 0x80)) bs o → Valued (suc n) v (c ∷ bs) o
-    longer t none r = tt
-    longer t (some u) r = (omega arith, next (true_follows c t) r.1)
+    longer t None r = tt
+    longer t (Some u) r = (omega arith, next (true_follows c t) r.1)
 
-abbrev SpelledAt : List ℕ → Character → Type 0
-SpelledAt bs Malformed = Unit {0}
-SpelledAt bs (Whole v w) = (w ≤ length bs) × Spells (take w bs) v
+abbrev SpelledAt : List ℕ → Option Character → Type 0
+SpelledAt bs None = Unit {0}
+SpelledAt bs (Some c) = (c.width ≤ length bs) × Spells (take c.width bs) c.value
 
 module _ (b : ℕ) (bs : List ℕ) where
   form_reads : {n from to least : ℕ} → Form n from to least → (from ≤ b) × (b < to) → SpelledAt (b ∷ bs) (well_formed (suc n) least (value n (b - from) bs))
@@ -121,8 +126,8 @@ module _ (b : ℕ) (bs : List ℕ) where
   form_reads {n} {from} {to} {least} f h = go (value n (b - from) bs) (value_valued n (b - from) bs)
     where
       go : (o : Option ℕ) → Valued n (b - from) bs o → SpelledAt (b ∷ bs) (well_formed (suc n) least o)
-      go none r = tt
-      go (some v) r =
+      go None r = tt
+      go (Some v) r =
           either_way
           (SpelledAt (b ∷ bs))
           (leb least v && scalar v)
@@ -144,19 +149,19 @@ unfolding character
 character_reads [] = tt
 character_reads (b ∷ bs) = first_reads b bs
 
-read : (bs : List ℕ) {v w : ℕ} → character bs ≡ Whole v w → (w ≤ length bs) × Spells (take w bs) v
+read : (bs : List ℕ) {v w : ℕ} → character bs ≡ Some (whole v w) → (w ≤ length bs) × Spells (take w bs) v
 read bs e = subst (SpelledAt bs) e (character_reads bs)
 
-spelled : (bs rest : List ℕ) {v : ℕ} → character (bs ++ rest) ≡ Whole v (length bs) → Spells bs v
+spelled : (bs rest : List ℕ) {v : ℕ} → character (bs ++ rest) ≡ Some (whole v (length bs)) → Spells bs v
 spelled bs rest {v} e = subst (λ l. Spells l v) (take-append_seam bs rest) (read (bs ++ rest) e).1
 
 -- what callers want
 
 -- what a character is depends on its own bytes only
-pub character_frame : (bs rest rest' : List ℕ) {v : ℕ} → character (bs ++ rest) ≡ Whole v (length bs) → character (bs ++ rest') ≡ Whole v (length bs)
+pub character_frame : (bs rest rest' : List ℕ) {v : ℕ} → character (bs ++ rest) ≡ Some (whole v (length bs)) → character (bs ++ rest') ≡ Some (whole v (length bs))
 character_frame bs rest rest' e = spells_character (spelled bs rest e) rest'
 
-pub character_width : (bs : List ℕ) {v w : ℕ} → character bs ≡ Whole v w → (1 ≤ w) × (w ≤ length bs)
+pub character_width : (bs : List ℕ) {v w : ℕ} → character bs ≡ Some (whole v w) → (1 ≤ w) × (w ≤ length bs)
 character_width bs {v} {w} e = let r = read bs e in omega (arith, not_empty r.1, length-take w bs)
   where
     not_empty : {bs : List ℕ} → Spells bs v → 1 ≤ length bs
@@ -178,10 +183,10 @@ spells_high (spell three h g l s) k = omega arith
 spells_high (spell four h g l s) k = omega arith
 
 -- a byte below 128 is a character
-pub character_low : (b : ℕ) (bs : List ℕ) → b < 128 → character (b ∷ bs) ≡ Whole b 1
+pub character_low : (b : ℕ) (bs : List ℕ) → b < 128 → character (b ∷ bs) ≡ Some (whole b 1)
 character_low b bs h = spells_character (alone b h) bs
 
-module _ (b : ℕ) (bs : List ℕ) {v w : ℕ} (e : character (b ∷ bs) ≡ Whole v w) where
+module _ (b : ℕ) (bs : List ℕ) {v w : ℕ} (e : character (b ∷ bs) ≡ Some (whole v w)) where
   -- all bytes but the first are at least 128
   pub character-bytes : (k : ℕ) → 1 ≤ k → k < w → 128 ≤ get_or (b ∷ bs) k 0
   character-bytes k l h =
@@ -189,7 +194,7 @@ module _ (b : ℕ) (bs : List ℕ) {v w : ℕ} (e : character (b ∷ bs) ≡ Who
       rw (get_or-take w (b ∷ bs) k 0 h) at (spells_bytes r.1 k l (omega (arith, length-take w (b ∷ bs))))
 
   pub character-one : b < 128 → (v ≡ b) × (w ≡ 1)
-  character-one h = let p = character_low b bs h in (cc, cc)
+  character-one h = same_character (sym e ∙ character_low b bs h)
 
   -- a character of several bytes has a value of at least 128
   pub character_high : 128 ≤ b → 128 ≤ v
@@ -213,7 +218,7 @@ spells_row (spell four h (next c (next d (next f (done e)))) l (inl s)) = absurd
 spells_row (spell {b = b} four h (next c (next d (next f (done e)))) l (inr s)) =
     elim (dec_le b 0xF0) [ yes p ↦ (6, omega arith) | no p ↦ elim (dec_le b 0xF3) [ yes q ↦ (7, omega arith) | no q ↦ (8, omega arith) ] ]
 
-pub character_in_table : (bs rest : List ℕ) (v : ℕ) → character (bs ++ rest) ≡ Whole v (length bs) → Utf8Char bs
+pub character_in_table : (bs rest : List ℕ) (v : ℕ) → character (bs ++ rest) ≡ Some (whole v (length bs)) → Utf8Char bs
 character_in_table bs rest v e = let r = spells_row (spelled bs rest e) in any_row table bs r.0 r.1.0 r.1.1
 
 -- what stands in the table is spelled: the values of a row lie between those of its lowest and of its highest bytes
@@ -282,8 +287,8 @@ any_spells ([] ∷ rows) a bs m = absurd a
 any_spells ((r ∷ rs) ∷ rows) a bs (inl m) = sound_spells a.0 bs m
 any_spells ((r ∷ rs) ∷ rows) a bs (inr m) = any_spells rows a.1 bs m
 
-pub table-character : (bs rest : List ℕ) → Utf8Char bs → (v : ℕ) × (character (bs ++ rest) ≡ Whole v (length bs))
+pub table-character : (bs rest : List ℕ) → Utf8Char bs → (v : ℕ) × (character (bs ++ rest) ≡ Some (whole v (length bs)))
 table-character bs rest m = let s = any_spells table table_sound bs m in (s.0, spells_character s.1 rest)
 
-pub character_iff_table : (bs rest : List ℕ) → ((v : ℕ) × (character (bs ++ rest) ≡ Whole v (length bs))) ↔ Utf8Char bs
+pub character_iff_table : (bs rest : List ℕ) → ((v : ℕ) × (character (bs ++ rest) ≡ Some (whole v (length bs)))) ↔ Utf8Char bs
 character_iff_table bs rest = (λ r. character_in_table bs rest r.0 r.1, table-character bs rest)

@@ -1,17 +1,23 @@
 -- What READ answers and what it leaves, for every input. READ is CHECK and TIDY of document 01: request 4 of document 02 makes
 -- them one. And which texts are acceptable.
-use Rattle.std.specs.Prelude.{ℕ, Bool, List}
+use Rattle.std.specs.Prelude.{ℕ, Bool, List, Result, Ok, Err}
 use Rattle.kinds.specs.Limits.{Limits}
-use Rattle.plan.specs.declared.ReadAnswer.{ReadAnswer}
-use Rattle.plan.specs.declared.ReadAnswer.TheVariants.{Read, Refused}
 use Rattle.plan.specs.declared.ReadRefusal.{ReadRefusal}
 use Rattle.plan.specs.declared.ReadRefusal.TheVariants.{NotRead, OutShort}
+use Rattle.plan.specs.declared.Size.{Size}
 use Rattle.plan.specs.Outcomes.{Family, GIVES, Outcome, REFUSES, is_given}
 use Rattle.plan.specs.Plan.{cells, print}
 use Rattle.plan.specs.Reading.{ACCEPTED, Acceptance, UNREAD, accept}
 
+-- What READ answers. A refusal carries no cells and no length: it has none.
+abbrev pub ReadAnswer : Type 0
+ReadAnswer = Result Size ReadRefusal
+
+abbrev pub sized : (cells length : ℕ) → Size
+sized cells length = record { cells = cells; length = length }
+
 abbrev pub read_family : Family ReadRefusal (Unit {0}) ReadAnswer
-read_family = record { refused = Refused; out_short = OutShort; given = λ u cells length. Read cells length }
+read_family = record { refused = Err; out_short = OutShort; given = λ u cells length. Ok (sized cells length) }
 
 unfoldable pub as_read : Acceptance → Outcome ReadRefusal (Unit {0})
 as_read (UNREAD u) = REFUSES (NotRead u)

@@ -2,7 +2,7 @@
 -- fits the cells that there are. This is document 01's table of bytes, its refusals 11 and 13 to 17, and the faults of a token. By request
 -- 2 of document 02 annotations mean nothing.
 use Rattle.std.specs.Prelude.{ℕ, zero, suc, ◌+◌, ◌-◌, ◌≡◌, ◌≢◌, ◌⊎◌, Bool, true, false, cond, List, [], ◌∷◌, ◌++◌, length, get_or, leb, ltb, eqb}
-use Rattle.std.proofs.Math.Option.{Option, none, some}
+use Rattle.std.specs.Prelude.{Option, None, Some}
 use Rattle.kinds.specs.declared.Place.{Place}
 use Rattle.kinds.specs.Limits.{Limits}
 use Rattle.plan.specs.declared.Unread.{Unread}
@@ -72,8 +72,8 @@ abbrev pub faulty_token : (at : ℕ) → Met → TextFault
 faulty_token at m = BadToken m.fault (place (suc at + m.byte))
 
 unfoldable pub after_token : (limit at : ℕ) → List ℕ → Option (List ℕ) → Around → Plan ℕ → Move
-after_token limit at rest none out here = STOP (faulty_token at (first_fault 0 (limit - 2) 0 rest))
-after_token limit at rest (some t) out here = ON out (cond (mark BRACE rest) here (here then token at t end)) (suc (length t))
+after_token limit at rest None out here = STOP (faulty_token at (first_fault 0 (limit - 2) 0 rest))
+after_token limit at rest (Some t) out here = ON out (cond (mark BRACE rest) here (here then token at t end)) (suc (length t))
 
 unfoldable pub move : (limit at : ℕ) → Class → List ℕ → Around → Plan ℕ → Move
 move limit at (OPERATOR o) rest out here = ON out (here then operator at o end) 0

@@ -1,9 +1,7 @@
 -- What a token may hold: document 01, "A token runs from `{` ..". Characters are those of RFC 3629, section 3. Then which tokens are
 -- annotations: request 2 of document 02.
-use Rattle.std.specs.Prelude.{ℕ, zero, suc, ◌+◌, ◌*◌, ◌-◌, ◌≡◌, Bool, true, false, cond, not, ◌&&◌, ◌||◌, List, [], ◌∷◌, length, leb, ltb, eqb}
-use Rattle.std.proofs.Math.Option.{Option, none, some}
+use Rattle.std.specs.Prelude.{ℕ, zero, suc, ◌+◌, ◌*◌, ◌-◌, ◌≡◌, Bool, true, false, cond, not, ◌&&◌, ◌||◌, List, [], ◌∷◌, length, leb, ltb, eqb, Option, Some, None}
 use Rattle.plan.specs.declared.Character.{Character}
-use Rattle.plan.specs.declared.Character.TheVariants.{Whole, Malformed}
 use Rattle.plan.specs.Options.{under}
 use Rattle.plan.specs.Plan.{Plan, end, operator, token, block, open_brace, close_brace}
 
@@ -13,37 +11,40 @@ follows b = leb 128 b && ltb b 192
 
 -- the value after n more bytes, if there are so many and each follows
 unfoldable pub value : (n v : ℕ) → List ℕ → Option ℕ
-value zero v bs = some v
-value (suc n) v [] = none
-value (suc n) v (b ∷ bs) = let r = value n (v * 64 + (b - 128)) bs in cond (follows b) r none
+value zero v bs = Some v
+value (suc n) v [] = None
+value (suc n) v (b ∷ bs) = let r = value n (v * 64 + (b - 128)) bs in cond (follows b) r None
 
 -- no surrogate, and nothing past U+10FFFF
 unfoldable pub scalar : ℕ → Bool
 scalar v = ltb v 0xD800 || (ltb 0xDFFF v && leb v 0x10FFFF)
 
--- a value that needs fewer bytes than these is an overlong form
-unfoldable pub well_formed : (width least : ℕ) → Option ℕ → Character
-well_formed width least none = Malformed
-well_formed width least (some v) = cond (leb least v && scalar v) (Whole v width) Malformed
+abbrev pub whole : (value width : ℕ) → Character
+whole value width = record { value = value; width = width }
 
--- the character that these bytes begin with: its value and how many bytes it has
-unfoldable pub character : List ℕ → Character
-character [] = Malformed
+-- a value that needs fewer bytes than these is an overlong form
+unfoldable pub well_formed : (width least : ℕ) → Option ℕ → Option Character
+well_formed width least None = None
+well_formed width least (Some v) = cond (leb least v && scalar v) (Some (whole v width)) None
+
+-- the character that these bytes begin with, if they begin one: its value and how many bytes it has
+unfoldable pub character : List ℕ → Option Character
+character [] = None
 character (b ∷ bs) =
-    cond (ltb b 0x80) (Whole b 1)
-    (cond (ltb b 0xC0) Malformed
+    cond (ltb b 0x80) (Some (whole b 1))
+    (cond (ltb b 0xC0) None
     (cond (ltb b 0xE0) (well_formed 2 0x80 (value 1 (b - 0xC0) bs))
     (cond (ltb b 0xF0) (well_formed 3 0x800 (value 2 (b - 0xE0) bs))
-    (cond (ltb b 0xF8) (well_formed 4 0x10000 (value 3 (b - 0xF0) bs)) Malformed))))
+    (cond (ltb b 0xF8) (well_formed 4 0x10000 (value 3 (b - 0xF0) bs)) None))))
 
 -- no brace, no U+0000 to U+001F, no U+007F to U+009F, no U+FFFD
 unfoldable pub may_hold : ℕ → Bool
 may_hold v = not (eqb v open_brace) && (not (eqb v close_brace) && (leb 0x20 v && ((ltb v 0x7F || ltb 0x9F v) && not (eqb v 0xFFFD))))
 
 -- the first character is one that a token may hold, and what comes after it is right too
-unfoldable pub permits : Character → (ℕ → Bool) → Bool
-permits Malformed after = false
-permits (Whole v width) after = may_hold v && after (width - 1)
+unfoldable pub permits : Option Character → (ℕ → Bool) → Bool
+permits None after = false
+permits (Some c) after = may_hold c.value && after (c.width - 1)
 
 -- every character is one that a token may hold; the first `skip` bytes belong to a character already looked at
 unfoldable pub all_permitted : (skip : ℕ) → List ℕ → Bool
@@ -57,12 +58,12 @@ allowed limit t = leb 1 (length t) && (leb (length t + 2) limit && all_permitted
 
 -- the bytes before the first `}`
 unfoldable pub before_brace : List ℕ → Option (List ℕ)
-before_brace [] = none
-before_brace (b ∷ bs) = let r = under (b ∷◌) (before_brace bs) in cond (eqb b close_brace) (some []) r
+before_brace [] = None
+before_brace (b ∷ bs) = let r = under (b ∷◌) (before_brace bs) in cond (eqb b close_brace) (Some []) r
 
 unfoldable pub if_allowed : (limit : ℕ) → Option (List ℕ) → Option (List ℕ)
-if_allowed limit none = none
-if_allowed limit (some t) = cond (allowed limit t) (some t) none
+if_allowed limit None = None
+if_allowed limit (Some t) = cond (allowed limit t) (Some t) None
 
 -- the token that a `{` opens, if the bytes after it are those of an allowed one
 unfoldable pub token_text : (limit : ℕ) → List ℕ → Option (List ℕ)

@@ -3,9 +3,13 @@
 // that a promise is one equation.
 #![tactic(auto)]
 
+ghost use Rattle.std.specs.Prelude.{◌≡◌};
+ghost use Rattle.plan.specs.declared.ReadRefusal.TheVariants.{NotRead};
+ghost use Rattle.plan.specs.declared.Unread.TheVariants.{Text};
+
 use kinds::Place;
 
-#[derive(Clone, Copy)]
+#[derive(Clone, Copy, PartialEq, Eq)]
 pub enum Operator {
     A,
     B,
@@ -14,7 +18,7 @@ pub enum Operator {
 }
 
 // The class of a byte outside tokens.
-#[derive(Clone, Copy)]
+#[derive(Clone, Copy, PartialEq, Eq)]
 pub enum Class {
     Operator(Operator),
     Open,
@@ -24,15 +28,15 @@ pub enum Class {
     Bad,
 }
 
-// A character of UTF-8, or bytes that begin none.
-#[derive(Clone, Copy)]
-pub enum Character {
-    Whole { value: u32, width: u32 },
-    Malformed,
+// A character of UTF-8, and how many bytes it has. Bytes that begin none have no character.
+#[derive(Clone, Copy, PartialEq, Eq)]
+pub struct Character {
+    pub value: u32,
+    pub width: u32,
 }
 
 // What is wrong with a token.
-#[derive(Clone, Copy)]
+#[derive(Clone, Copy, PartialEq, Eq)]
 pub enum TokenFault {
     Empty,
     Long,
@@ -42,7 +46,7 @@ pub enum TokenFault {
 }
 
 // What is wrong with a text, with the place of the fault: every family of services that reads a text shares these.
-#[derive(Clone, Copy)]
+#[derive(Clone, Copy, PartialEq, Eq)]
 pub enum TextFault {
     TooLong,
     BadByte(Place),
@@ -52,23 +56,40 @@ pub enum TextFault {
 }
 
 // Why a text is not read: because it has a fault, or because it is too large, at the first item past the cells that there are.
-#[derive(Clone, Copy)]
+#[derive(Clone, Copy, PartialEq, Eq)]
 pub enum Unread {
     Text(TextFault),
     Overfull(Place),
 }
 
+// A fault is the first thing that keeps a text from being read.
+impl From<TextFault> for Unread {
+    ghost from_gives = { λ f u. u ≡ Text f };
+
+    fn from(fault: TextFault) -> Unread {
+        Unread::Text(fault)
+    }
+}
+
 // Why a call of READ is refused.
-#[derive(Clone, Copy)]
+#[derive(Clone, Copy, PartialEq, Eq)]
 pub enum ReadRefusal {
     NotRead(Unread),
     // The bytes needed.
     OutShort(u32),
 }
 
-// What READ answers. A refusal carries no cells and no length: it has none.
-#[derive(Clone, Copy)]
-pub enum ReadAnswer {
-    Read { cells: u32, length: u32 },
-    Refused(ReadRefusal),
+impl From<Unread> for ReadRefusal {
+    ghost from_gives = { λ u r. r ≡ NotRead u };
+
+    fn from(why: Unread) -> ReadRefusal {
+        ReadRefusal::NotRead(why)
+    }
+}
+
+// How large a plan is: its cells, and the bytes of its printed text.
+#[derive(Clone, Copy, PartialEq, Eq)]
+pub struct Size {
+    pub cells: u32,
+    pub length: u32,
 }

@@ -1,7 +1,7 @@
 -- What the parts of adding promise each other. Of the roll they say what it comes to. Of the entry they
 -- say, by its sections, what is wrong with it.
 use Rattle.std.specs.Prelude.{ℕ, ◌*◌, ◌≤◌, ◌≡◌, ◌⊎◌, Bool, false, List, reverse, length}
-use Rattle.std.proofs.Math.Option.{none, some}
+use Rattle.std.specs.Prelude.{None as none, Some as some}
 use Rattle.kinds.specs.Limits.{standard}
 use Rattle.roll_rules.specs.Answers.{Added, Judged, ENTRIES, REFUSED, edition_1, grown, judged, new_entry, sums}
 use Rattle.roll_format.specs.Format.{Entry, longest, says}

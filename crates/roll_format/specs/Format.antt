@@ -1,7 +1,7 @@
 -- The bytes of a roll: entries, one behind the other, and where they end; what an entry says; and an entry's bytes. Nothing here asks
 -- whether an entry is right.
 use Rattle.std.specs.Prelude.{ℕ, zero, suc, ◌-◌, cond, List, [], ◌∷◌, ◌++◌, eqb, length}
-use Rattle.std.proofs.Math.Option.{Option, none, some}
+use Rattle.std.specs.Prelude.{Option, None as none, Some as some}
 use Rattle.stored.specs.Counted.{AtFront, CUT, FRONT, counted, four_bytes, largest, number, then_read, with_count}
 use Rattle.roll_format.specs.declared.EntryKind.{EntryKind}
 use Rattle.roll_format.specs.declared.EntryKind.TheVariants.{Filed, Done}

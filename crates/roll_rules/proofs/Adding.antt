@@ -1,7 +1,7 @@
 -- Laws of adding: a refused roll comes first, then what is wrong with the entry, and lack of room last.
 use Prim.Native.Nat.{ℕ, ◌+◌, ◌≤◌, ◌<◌, min}
 use mathlib.Core.Path.{◌≡◌, refl}
-use mathlib.Core.Option.{Option, none, some}
+use Rattle.std.specs.Prelude.{Option, None as none, Some as some}
 use mathlib.Core.List.{List, reverse}
 use borrow.Author.Tests.{le-leb, lt-leb}
 use lib.ListN.{length}

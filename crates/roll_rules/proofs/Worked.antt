@@ -3,7 +3,7 @@
 -- here, and the words of reading a text, of rewriting and of what is stored.
 use Prim.Native.Nat.{ℕ}
 use mathlib.Core.Path.{◌≡◌, refl}
-use mathlib.Core.Option.{none}
+use Rattle.std.specs.Prelude.{None as none}
 use mathlib.Core.List.{List, [], ◌∷◌}
 use lib.ListN.{replicate}
 use Rattle.kinds.specs.Limits.{standard}

@@ -1,6 +1,6 @@
 -- What the services of the roll answer and leave, for every input.
 use Rattle.std.specs.Prelude.{ℕ, ◌+◌, min, Bool, false, cond, List, [], ◌∷◌, ◌++◌, map, reverse, eqb, leb, ltb, length, take, drop}
-use Rattle.std.proofs.Math.Option.{Option, none, some}
+use Rattle.std.specs.Prelude.{Option, None as none, Some as some}
 use Rattle.plan.specs.Options.{◌else◌}
 use Rattle.kinds.specs.Limits.{Limits, standard}
 use Rattle.stored.specs.Counted.{AtFront, CUT, FRONT, largest}

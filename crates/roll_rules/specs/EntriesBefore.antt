@@ -1,7 +1,7 @@
 -- The entries of a roll that stand before a place and obey the rules: what a walk over a roll has passed, and what they come to with one
 -- more. For the code and the laws; no answer is told by it.
 use Rattle.std.specs.Prelude.{ℕ, ◌+◌, ◌≤◌, ◌<◌, ◌≡◌, Bool, List, [], reverse, length}
-use Rattle.std.proofs.Math.Option.{none}
+use Rattle.std.specs.Prelude.{None as none}
 use Rattle.kinds.specs.Limits.{standard}
 use Rattle.roll_rules.specs.Answers.{grown}
 use Rattle.roll_format.specs.Format.{Entry, longest}

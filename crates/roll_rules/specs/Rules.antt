@@ -1,7 +1,7 @@
 -- What the entries of a roll must obey, and what they add up to. Nothing here looks at the roll's bytes. Earlier entries are given the
 -- newest first.
 use Rattle.std.specs.Prelude.{ℕ, suc, Bool, true, false, cond, ◌&&◌, List, [], ◌∷◌, leb, ltb, length}
-use Rattle.std.proofs.Math.Option.{Option, none, some}
+use Rattle.std.specs.Prelude.{Option, None as none, Some as some}
 use Rattle.plan.specs.Options.{is_none}
 use Rattle.plan.specs.Plan.{print}
 use Rattle.plan.specs.Reading.{plan_of}

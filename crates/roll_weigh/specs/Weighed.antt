@@ -1,6 +1,6 @@
 -- What the code says of an entry: what is wrong with it, or what it adds to the tally.
 use Rattle.std.specs.Prelude.{ℕ, Bool, true, false, cond, List}
-use Rattle.std.proofs.Math.Option.{Option, none, some}
+use Rattle.std.specs.Prelude.{Option, None as none, Some as some}
 use Rattle.kinds.specs.Limits.{standard}
 use Rattle.roll_format.specs.Format.{Entry, says}
 use Rattle.roll_rules.specs.Rules.{after_done, counts_done, counts_filed, fault, is_new, is_printed, standing, unfinished}

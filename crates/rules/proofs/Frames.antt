@@ -4,7 +4,7 @@
 use Prim.Native.Nat.{◌+◌}
 use mathlib.Core.Path.{◌≡◌, refl, ap, sym, ◌∙◌}
 use mathlib.Core.List.{List, [], ◌∷◌, ◌++◌, append_assoc, append-nil}
-use mathlib.Core.Option.{Option, none, some}
+use Rattle.std.specs.Prelude.{Option, None, Some}
 use native.Mathlib.Omega.{arith}
 use Rattle.rules.specs.Frames.{Frame, top, within, plug, beyond, Ahead, Inside}
 use Rattle.plan.specs.Options.{◌else◌, under}
@@ -54,15 +54,15 @@ module _ {L : Type 0} where
   ahead_top t = record { there = refl; first = go (next t) }
     where
       go : (x : Option (Plan L)) → x ≡ under (plug top) x else beyond top t
-      go none = refl
-      go (some p) = refl
+      go None = refl
+      go (Some p) = refl
 
   module _ {t : Plan L} {f : Frame L} where
-    pub found_ahead : {q q' : Plan L} → Ahead t f q → leftmost q ≡ some q' → next t ≡ some (plug f q')
+    pub found_ahead : {q q' : Plan L} → Ahead t f q → leftmost q ≡ Some q' → next t ≡ Some (plug f q')
     unfolding under ◌else◌
     found_ahead {q} h e = h.first ∙ ap (λ x. under (plug f) x else beyond f q) (leftmost-first q e)
 
-    pub none_ahead : {q : Plan L} → Ahead t f q → leftmost q ≡ none → Inside t f end q
+    pub none_ahead : {q : Plan L} → Ahead t f q → leftmost q ≡ None → Inside t f end q
     unfolding ◌then◌
     none_ahead {q} h e =
         record { there = h.there; first = h.first ∙ ap (λ x. under (plug f) x else beyond f q) (inner-after q e) }
@@ -80,6 +80,6 @@ module _ {L : Type 0} where
     unfolding plug beyond inner under ◌else◌ ◌then◌
     inside_leave h = record { there = h.there ∙ simp (then_assoc, then_end); first = h.first ∙ simp (then_assoc, then_end) }
 
-  pub inside_end : {t d : Plan L} → Inside t top d end → next t ≡ none
+  pub inside_end : {t d : Plan L} → Inside t top d end → next t ≡ None
   unfolding beyond inner under ◌else◌
   inside_end h = h.first

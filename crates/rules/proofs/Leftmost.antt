@@ -4,7 +4,7 @@
 use Prim.Native.Nat.{ℕ, zero, suc, ◌+◌, ◌<◌, ◌≤◌}
 use mathlib.Core.Path.{◌≡◌, refl, ap, sym, subst, ◌∙◌}
 use mathlib.Core.Logic.{◌↔◌}
-use mathlib.Core.Option.{Option, none, some}
+use Rattle.std.specs.Prelude.{Option, None, Some}
 use native.Mathlib.Omega.{arith}
 use Rattle.rules.specs.Frames.{lead, rule_makes}
 use Rattle.rules.specs.Leftmost.{takes, ReadyBehind, ReadyAt, items, RewrittenAt, LeftmostRewritten}
@@ -56,7 +56,7 @@ module _ {L : Type 0} where
   two_blocks k (block l b p) (suc i) r = more_blocks p i (omega arith) (two_blocks (suc k) p i r)
 
   -- a block that is no part of a rewrite makes nothing ready
-  behind_two : (l : L) (B : Plan L) (m : L) (A p : Plan L) (i : ℕ) → after_two l B m A p ≡ none → ReadyBehind 2 p i → ReadyBehind 1 p i
+  behind_two : (l : L) (B : Plan L) (m : L) (A p : Plan L) (i : ℕ) → after_two l B m A p ≡ None → ReadyBehind 2 p i → ReadyBehind 1 p i
   unfolding after_two
   behind_two l B m A end i e r = r
   behind_two l B m A (operator n op_a p) zero e r = absurd (some_is_not_none e)
@@ -69,7 +69,7 @@ module _ {L : Type 0} where
   behind_two l B m A (block n C p) zero e r = r
   behind_two l B m A (block n C p) (suc i) e r = two_blocks 3 p i r
 
-  behind_one : (l : L) (A p : Plan L) (i : ℕ) → first_block l A p ≡ none → ReadyBehind 1 p i → ReadyAt p i
+  behind_one : (l : L) (A p : Plan L) (i : ℕ) → first_block l A p ≡ None → ReadyBehind 1 p i → ReadyAt p i
   unfolding first_block
   behind_one l A end i e r = r
   behind_one l A (operator n op_a p) zero e r = omega arith
@@ -84,8 +84,8 @@ module _ {L : Type 0} where
 
   -- what the order finds in a sequence: no ready operator, or the leftmost
   abbrev Chosen : Plan L → Option (Plan L) → Type 0
-  Chosen p none = (i : ℕ) → ReadyAt p i → ⊥
-  Chosen p (some q) = LeftmostRewritten p q
+  Chosen p None = (i : ℕ) → ReadyAt p i → ⊥
+  Chosen p (Some q) = LeftmostRewritten p q
 
   -- the item x comes before p, and is neither ready nor part of a rewrite: what is ready in p is so one number later
   record Passed (x p : Plan L) : Type 0 where
@@ -115,12 +115,12 @@ module _ {L : Type 0} where
 
   passed : {x p : Plan L} → Passed x p → (y : Option (Plan L)) → Chosen p y → Chosen (x then p) (under (x then◌) y)
   unfolding under
-  passed {x} {p} h none c = nothing
+  passed {x} {p} h None c = nothing
     where
       nothing : (i : ℕ) → ReadyAt (x then p) i → ⊥
       nothing zero r = h.first r
       nothing (suc i) r = c i (h.back i r)
-  passed {x} {p} h (some q) c =
+  passed {x} {p} h (Some q) c =
       record {
         number = suc c.number;
         ready = h.on c.number c.ready;
@@ -181,10 +181,10 @@ module _ {L : Type 0} where
   first_block_chosen l A (token n t p) = tt
   first_block_chosen l A (block m B p) = after_two_chosen l A m B p
 
-  else_chosen : (p : Plan L) (y z : Option (Plan L)) → Each (LeftmostRewritten p) y → (y ≡ none → Chosen p z) → Chosen p (y else z)
+  else_chosen : (p : Plan L) (y z : Option (Plan L)) → Each (LeftmostRewritten p) y → (y ≡ None → Chosen p z) → Chosen p (y else z)
   unfolding ◌else◌
-  else_chosen p none z h c = c refl
-  else_chosen p (some q) z h c = h
+  else_chosen p None z h c = c refl
+  else_chosen p (Some q) z h c = h
 
   chosen : (p : Plan L) → Chosen p (leftmost p)
   unfolding leftmost ◌then◌ items
@@ -198,18 +198,18 @@ module _ {L : Type 0} where
       passed item (leftmost p) (chosen p)
   chosen (block l A p) =
       let after = chosen p in
-      let item : first_block l A p ≡ none → Passed (block l A end) p =
+      let item : first_block l A p ≡ None → Passed (block l A end) p =
       λ e. record { one = refl; first = λ r. r; back = λ i. behind_one l A p i e; on = λ i. more_blocks p i (omega arith) } in
       else_chosen (block l A p) (first_block l A p) _ (first_block_chosen l A p) (λ e. passed (item e) (leftmost p) after)
 
   -- "the leftmost of those is rewritten"
-  pub leftmost_rewritten : (p : Plan L) {q : Plan L} → leftmost p ≡ some q → LeftmostRewritten p q
+  pub leftmost_rewritten : (p : Plan L) {q : Plan L} → leftmost p ≡ Some q → LeftmostRewritten p q
   leftmost_rewritten p e = subst (Chosen p) e (chosen p)
 
   -- and none is exactly where no operator of the sequence is ready
-  pub leftmost_none_iff : (p : Plan L) → (leftmost p ≡ none) ↔ ((i : ℕ) → ReadyAt p i → ⊥)
+  pub leftmost_none_iff : (p : Plan L) → (leftmost p ≡ None) ↔ ((i : ℕ) → ReadyAt p i → ⊥)
   leftmost_none_iff p = (λ e. subst (Chosen p) e (chosen p), go (leftmost p) (chosen p))
     where
-      go : (y : Option (Plan L)) → Chosen p y → ((i : ℕ) → ReadyAt p i → ⊥) → y ≡ none
-      go none c stuck = refl
-      go (some q) c stuck = absurd (stuck c.number c.ready)
+      go : (y : Option (Plan L)) → Chosen p y → ((i : ℕ) → ReadyAt p i → ⊥) → y ≡ None
+      go None c stuck = refl
+      go (Some q) c stuck = absurd (stuck c.number c.ready)

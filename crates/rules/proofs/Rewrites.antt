@@ -3,12 +3,14 @@ use Prim.Native.Nat.{ℕ, ◌+◌, ◌<◌}
 use mathlib.Core.Path.{◌≡◌, refl, ap, sym, ◌∙◌}
 use mathlib.Core.Logic.{◌↔◌, ◌⊎◌, inl, inr, ⊎_elim, ⊎_map}
 use mathlib.Core.Bool.{true}
-use mathlib.Core.Option.{Option, none, some, IsSome}
+use Rattle.std.specs.Prelude.{Option, None, Some}
+use Rattle.std.specs.Prelude.{IsSome}
 use mathlib.Core.List.{List}
 use native.Mathlib.Omega.{arith}
 use Rattle.plan.specs.declared.Operator.TheVariants.{A as op_a, B as op_b, C as op_c, D as op_d}
 use Rattle.plan.specs.Plan.{Plan, end, operator, token, block, ◌then◌, cells, relabel, changed, renamed, WithoutC}
 use Rattle.plan.specs.Token.{Allowed}
+use Rattle.kinds.proofs.Tests.{false_is_not_true}
 use Rattle.rules.specs.Rewriting.{◌⟶◌, rule_a, rule_b, rule_c, rule_d, past_operator, past_token, past_block, in_block, after_two, first_block, leftmost, inner, next, finished}
 use Rattle.plan.specs.Options.{◌else◌, is_none, under}
 use Rattle.plan.proofs.Options.{Each, else_each, else-left, else-right, else_either, none_when, under_each, under-is_some, under_none, under-else, under_same, under_square, under-under, some_under, else_front}
@@ -57,17 +59,17 @@ module _ {L : Type 0} where
       let after = under_each (block l A) (◌⟶◌ p) (◌⟶◌ (block l A p)) (λ r. past_block) (inner p) (inner_step p) in
       else_each _ (under (λ B. block l B p) (leftmost A else inner A)) _ around after
 
-  pub next_step : (p : Plan L) {q : Plan L} → next p ≡ some q → p ⟶ q
+  pub next_step : (p : Plan L) {q : Plan L} → next p ≡ Some q → p ⟶ q
   unfolding next
   next_step p h = rw h at (else_each (◌⟶◌ p) (leftmost p) (inner p) (leftmost_step p) (inner_step p))
 
   -- .. and where a rule fits, there is a next one.
   pub ready : {p q : Plan L} → p ⟶ q → IsSome (leftmost p) ⊎ IsSome (inner p)
   unfolding leftmost inner first_block after_two ◌else◌
-  ready rule_a = inl tt
-  ready rule_b = inl tt
-  ready rule_c = inl tt
-  ready rule_d = inl tt
+  ready rule_a = inl refl
+  ready rule_b = inl refl
+  ready rule_c = inl refl
+  ready rule_d = inl refl
   ready (past_operator {p} s) = ⊎_map (under-is_some _ (leftmost p)) (under-is_some _ (inner p)) (ready s)
   ready (past_token {p} s) = ⊎_map (under-is_some _ (leftmost p)) (under-is_some _ (inner p)) (ready s)
   ready (past_block {l} {A} {p} s) =
@@ -80,27 +82,27 @@ module _ {L : Type 0} where
       let around = under-is_some (λ B. block l B p) (leftmost A else inner A) inside in
       inr (else-left (under (λ B. block l B p) (leftmost A else inner A)) _ around)
 
-  pub next-finished : (p : Plan L) → next p ≡ none → {q : Plan L} → p ⟶ q → ⊥
+  pub next-finished : (p : Plan L) → next p ≡ None → {q : Plan L} → p ⟶ q → ⊥
   unfolding next
-  next-finished p h s = rw h at (else_either (leftmost p) (inner p) (ready s))
+  next-finished p h s = false_is_not_true (rw h at (else_either (leftmost p) (inner p) (ready s)))
 
-  pub finished_iff : (p : Plan L) → (next p ≡ none) ↔ ((q : Plan L) → p ⟶ q → ⊥)
+  pub finished_iff : (p : Plan L) → (next p ≡ None) ↔ ((q : Plan L) → p ⟶ q → ⊥)
   finished_iff p = (λ h q s. next-finished p h s, go (next p) refl)
     where
-      go : (x : Option (Plan L)) → next p ≡ x → ((q : Plan L) → p ⟶ q → ⊥) → next p ≡ none
-      go none h stuck = h
-      go (some q) h stuck = absurd (stuck q (next_step p h))
+      go : (x : Option (Plan L)) → next p ≡ x → ((q : Plan L) → p ⟶ q → ⊥) → next p ≡ None
+      go None h stuck = h
+      go (Some q) h stuck = absurd (stuck q (next_step p h))
 
   pub finished_when : (p : Plan L) → (finished p ≡ true) ↔ ((q : Plan L) → p ⟶ q → ⊥)
   unfolding finished
   finished_when p = (λ h. (finished_iff p).0 ((none_when (next p)).0 h), λ stuck. (none_when (next p)).1 ((finished_iff p).1 stuck))
 
   -- The order: a ready operator of the sequence itself goes before those inside its blocks.
-  pub leftmost-first : (p : Plan L) {q : Plan L} → leftmost p ≡ some q → next p ≡ some q
+  pub leftmost-first : (p : Plan L) {q : Plan L} → leftmost p ≡ Some q → next p ≡ Some q
   unfolding next ◌else◌
   leftmost-first p h = rw h
 
-  pub inner-after : (p : Plan L) → leftmost p ≡ none → next p ≡ inner p
+  pub inner-after : (p : Plan L) → leftmost p ≡ None → next p ≡ inner p
   unfolding next ◌else◌
   inner-after p h = rw h
 
@@ -251,8 +253,8 @@ module _ {L : Type 0} (y : Plan L) where
   after_two_front : (l : L) (B : Plan L) (m : L) (A x : Plan L) → IsSome (after_two l B m A x) ⊎ IsSome (leftmost (block m A x))
       → after_two l B m A (x then y) ≡ under (◌then y) (after_two l B m A x)
   unfolding after_two leftmost first_block ◌else◌ under ◌then◌
-  after_two_front l B m A end s = ⊎_elim absurd absurd s
-  after_two_front l B m A (operator n op_a p) s = ap some (sym (then_assoc A (block l B p) y))
+  after_two_front l B m A end s = ⊎_elim false_is_not_true false_is_not_true s
+  after_two_front l B m A (operator n op_a p) s = ap Some (sym (then_assoc A (block l B p) y))
   after_two_front l B m A (operator n op_b p) s = refl
   after_two_front l B m A (operator n op_c p) s = refl
   after_two_front l B m A (operator n op_d p) s = refl
@@ -262,7 +264,7 @@ module _ {L : Type 0} (y : Plan L) where
   first_block_front : (l : L) (A x : Plan L) → IsSome (first_block l A x) ⊎ IsSome (leftmost x)
       → first_block l A (x then y) ≡ under (◌then y) (first_block l A x)
   unfolding first_block leftmost under ◌then◌
-  first_block_front l A end s = ⊎_elim absurd absurd s
+  first_block_front l A end s = ⊎_elim false_is_not_true false_is_not_true s
   first_block_front l A (operator n op_a p) s = refl
   first_block_front l A (operator n op_b p) s = refl
   first_block_front l A (operator n op_c p) s = refl
@@ -277,7 +279,7 @@ module _ {L : Type 0} (y : Plan L) where
 
   pub leftmost-in_front : (x : Plan L) → IsSome (leftmost x) → leftmost (x then y) ≡ under (◌then y) (leftmost x)
   unfolding leftmost ◌then◌
-  leftmost-in_front end s = absurd s
+  leftmost-in_front end s = false_is_not_true s
   leftmost-in_front (operator l o p) s = behind (operator l o) (λ q. refl) (leftmost p) (leftmost-in_front p (some_under _ (leftmost p) s))
   leftmost-in_front (token l t p) s = behind (token l t) (λ q. refl) (leftmost p) (leftmost-in_front p (some_under _ (leftmost p) s))
   leftmost-in_front (block l A p) s =
@@ -287,7 +289,7 @@ module _ {L : Type 0} (y : Plan L) where
 
   pub inner-leftmost : (x : Plan L) → IsSome (inner x) → inner (x then y) ≡ under (◌then y) (inner x)
   unfolding inner ◌then◌
-  inner-leftmost end s = absurd s
+  inner-leftmost end s = false_is_not_true s
   inner-leftmost (operator l o p) s = behind (operator l o) (λ q. refl) (inner p) (inner-leftmost p (some_under _ (inner p) s))
   inner-leftmost (token l t p) s = behind (token l t) (λ q. refl) (inner p) (inner-leftmost p (some_under _ (inner p) s))
   inner-leftmost (block l A p) s =

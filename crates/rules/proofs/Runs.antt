@@ -3,7 +3,7 @@ use Prim.Native.Nat.{ℕ, zero, suc, ◌+◌, ◌≤◌, ◌<◌}
 use mathlib.Core.Path.{◌≡◌, refl, sym, ◌∙◌, ap, subst}
 use mathlib.Core.Bool.{Bool, true, false, cond}
 use mathlib.Core.Logic.{◌↔◌}
-use mathlib.Core.Option.{Option, none, some}
+use Rattle.std.specs.Prelude.{Option, None, Some}
 use mathlib.Core.List.{List}
 use native.Mathlib.Nat.{zero-add, suc-add}
 use native.Mathlib.Omega.{arith}
@@ -27,9 +27,9 @@ ending (GOES_ON q) = Quota
 
 -- when a run that leads to q has that ending
 abbrev pub Stops : {L : Type 0} → (n : ℕ) → Ending → Plan L → Type 0
-Stops n Done q = next q ≡ none
-Stops {L} n Quota q = (r : Plan L) × (next q ≡ some r) × (cells r ≤ n)
-Stops {L} n Full q = (r : Plan L) × (next q ≡ some r) × (n < cells r)
+Stops n Done q = next q ≡ None
+Stops {L} n Quota q = (r : Plan L) × (next q ≡ Some r) × (cells r ≤ n)
+Stops {L} n Full q = (r : Plan L) × (next q ≡ Some r) × (n < cells r)
 
 -- a run, turn by turn
 pub data Run {L : Type 0} (n : ℕ) : (quota : ℕ) → Plan L → Ending → (steps : ℕ) → Plan L → Type 0 where
@@ -44,31 +44,31 @@ Of P (RAN e steps q) = P e steps q
 
 -- what a turn's answer tells of the plan that was asked about
 module _ {L : Type 0} (n : ℕ) where
-  pub ask_go : (x : Option (Plan L)) (r : Plan L) → (ask n x ≡ GOES_ON r) ↔ ((x ≡ some r) × (cells r ≤ n))
+  pub ask_go : (x : Option (Plan L)) (r : Plan L) → (ask n x ≡ GOES_ON r) ↔ ((x ≡ Some r) × (cells r ≤ n))
   unfolding ask
   ask_go x r = (by_next x, λ h. rw (h.0, le-leb (cells r) n h.1))
     where
       by_test : (q : Plan L) (b : Bool) → leb (cells q) n ≡ b → cond b (GOES_ON q) (ENDS Full) ≡ GOES_ON r →
-          (some q ≡ some r) × (cells r ≤ n)
-      by_test q true t h = let same : q ≡ r = cc in (ap some same, rw same at (leb-true (cells q) n t))
+          (Some q ≡ Some r) × (cells r ≤ n)
+      by_test q true t h = let same : q ≡ r = cc in (ap Some same, rw same at (leb-true (cells q) n t))
       by_test q false t h = never cc
 
-      by_next : (y : Option (Plan L)) → ask n y ≡ GOES_ON r → (y ≡ some r) × (cells r ≤ n)
-      by_next none h = never cc
-      by_next (some q) h = by_test q (leb (cells q) n) refl h
+      by_next : (y : Option (Plan L)) → ask n y ≡ GOES_ON r → (y ≡ Some r) × (cells r ≤ n)
+      by_next None h = never cc
+      by_next (Some q) h = by_test q (leb (cells q) n) refl h
 
   asked : (q : Plan L) → Stops n (ending (ask n (next q))) q
   unfolding ask ending
   asked q = by_next (next q) refl
     where
-      by_test : (r : Plan L) → next q ≡ some r → (b : Bool) → leb (cells r) n ≡ b →
+      by_test : (r : Plan L) → next q ≡ Some r → (b : Bool) → leb (cells r) n ≡ b →
           Stops n (ending (cond b (GOES_ON r) (ENDS Full))) q
       by_test r h true t = (r, h, leb-true (cells r) n t)
       by_test r h false t = (r, h, leb-false (cells r) n t)
 
       by_next : (x : Option (Plan L)) → next q ≡ x → Stops n (ending (ask n x)) q
-      by_next none h = h
-      by_next (some r) h = by_test r h (leb (cells r) n) refl
+      by_next None h = h
+      by_next (Some r) h = by_test r h (leb (cells r) n) refl
 
   -- Each ending has one cause, and no two have the same: so the cause is known from the ending too.
   pub ending_stops : (q : Plan L) (e : Ending) → ending (ask n (next q)) ≡ e → Stops n e q
@@ -208,13 +208,13 @@ module _ {L : Type 0} (n quota : ℕ) (p : Plan L) {e : Ending} {steps : ℕ} {q
       let asks = asks_last (ran_run n quota p ran) in
       (λ h. ending_stops n q d (asks ∙ h), λ h. sym asks ∙ stops_ending n q d h)
 
-  pub run_done : (e ≡ Done) ↔ (next q ≡ none)
+  pub run_done : (e ≡ Done) ↔ (next q ≡ None)
   run_done = run_stops Done
 
-  pub run_quota : (e ≡ Quota) ↔ ((r : Plan L) × (next q ≡ some r) × (cells r ≤ n))
+  pub run_quota : (e ≡ Quota) ↔ ((r : Plan L) × (next q ≡ Some r) × (cells r ≤ n))
   run_quota = run_stops Quota
 
-  pub run_full : (e ≡ Full) ↔ ((r : Plan L) × (next q ≡ some r) × (n < cells r))
+  pub run_full : (e ≡ Full) ↔ ((r : Plan L) × (next q ≡ Some r) × (n < cells r))
   run_full = run_stops Full
 
   pub run_quota_steps : e ≡ Quota → steps ≡ quota
@@ -267,8 +267,8 @@ module _ {L M : Type 0} (change : Plan L → Plan M) (as_large : (p : Plan L) �
     (along : (p : Plan L) → next (change p) ≡ under change (next p)) where
   ask-under : (n : ℕ) (x : Option (Plan L)) → ask n (under change x) ≡ retell change (ask n x)
   unfolding ask under retell
-  ask-under n none = refl
-  ask-under n (some q) = rw (as_large q) (by_test (leb (cells q) n))
+  ask-under n None = refl
+  ask-under n (Some q) = rw (as_large q) (by_test (leb (cells q) n))
     where
       by_test : (b : Bool) → cond b (GOES_ON (change q)) (ENDS Full) ≡ retell change (cond b (GOES_ON q) (ENDS Full))
       by_test true = refl

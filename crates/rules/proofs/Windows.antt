@@ -5,7 +5,7 @@ use Prim.Native.Nat.{ℕ}
 use mathlib.Core.Path.{◌≡◌, refl, ap, sym, ◌∙◌}
 use mathlib.Core.List.{List}
 use mathlib.Core.Logic.{◌↔◌}
-use mathlib.Core.Option.{Option, none, some}
+use Rattle.std.specs.Prelude.{Option, None, Some}
 use Rattle.rules.specs.Frames.{Rule, hollow, lead, rule_makes}
 use Rattle.plan.specs.Options.{◌else◌, under}
 use Rattle.plan.specs.declared.Operator.{Operator}
@@ -32,7 +32,7 @@ pub data Window {L : Type 0} (q y : Plan L) : Type 0 where
 pub record Ready {L : Type 0} (o : Operator) (l m n : L) (X p q : Plan L) : Type 0 where
   pub result : Plan L
   pub rule : Rule o l m n X p q result
-  pub found_leftmost : leftmost q ≡ some result
+  pub found_leftmost : leftmost q ≡ Some result
 
 module _ {L : Type 0} where
   unfoldable pub begin : (q : Plan L) → Front q q
@@ -40,12 +40,12 @@ module _ {L : Type 0} where
   begin q = record { front = end; parts = refl; found = same (leftmost q) }
     where
       same : (x : Option (Plan L)) → x ≡ under (end then◌) x
-      same none = refl
-      same (some v) = refl
+      same None = refl
+      same (Some v) = refl
 
   -- an operator is ready right behind the blocks that its rule takes
   leftmost_made : (o : Operator) (l : L) (B : Plan L) (m : L) (A : Plan L) (n : L) (p : Plan L)
-      → leftmost (lead o l B then block m A (operator n o p)) ≡ some (rule_makes o l B m A p)
+      → leftmost (lead o l B then block m A (operator n o p)) ≡ Some (rule_makes o l B m A p)
   unfolding ◌then◌ leftmost first_block after_two ◌else◌
   leftmost_made op_a l B m A n p = refl
   leftmost_made op_b l B m A n p = refl
@@ -70,20 +70,20 @@ module _ {L : Type 0} where
     unfolding ◌then◌ leftmost
     past_token {l} {t} {p} h = past h (token l t end) p refl refl
 
-    unfoldable pub past_block : {m : L} {A p : Plan L} → Front q (block m A p) → first_block m A p ≡ none → Front q p
+    unfoldable pub past_block : {m : L} {A p : Plan L} → Front q (block m A p) → first_block m A p ≡ None → Front q p
     unfolding ◌then◌ leftmost ◌else◌
     past_block {m} {A} {p} h e = past h (block m A end) p refl (ap (◌else under (block m A) (leftmost p)) e)
 
     -- nothing of y is ready, whatever stands before it
-    past_all : {y : Plan L} → Window q y → ((l : L) (B : Plan L) (m : L) (A : Plan L) → after_two l B m A y ≡ none)
-        → ((m : L) (A : Plan L) → first_block m A y ≡ none) → Front q y
+    past_all : {y : Plan L} → Window q y → ((l : L) (B : Plan L) (m : L) (A : Plan L) → after_two l B m A y ≡ None)
+        → ((m : L) (A : Plan L) → first_block m A y ≡ None) → Front q y
     unfolding first_block
     past_all (no_block h) two one = h
     past_all (one_block m A h) two one = past_block h (one m A)
     past_all (two_blocks l B m A h) two one = past_block (past_block h (two l B m A)) (one m A)
 
     -- at the end
-    pub none_ready : Window q end → leftmost q ≡ none
+    pub none_ready : Window q end → leftmost q ≡ None
     unfolding after_two first_block leftmost under
     none_ready h = (past_all h (λ l B m A. refl) (λ m A. refl)).found
 
@@ -113,12 +113,12 @@ module _ {L : Type 0} where
 abbrev there : {A : Type 0} → Option A → Option (Unit {0})
 there x = under (λ v. tt) x
 
-there_none : {A : Type 0} (x y : Option A) → there x ≡ there y → x ≡ none → y ≡ none
+there_none : {A : Type 0} (x y : Option A) → there x ≡ there y → x ≡ None → y ≡ None
 unfolding under
-there_none x none e n = refl
-there_none x (some b) e n = let gone : there x ≡ none = ap there n in never cc
+there_none x None e n = refl
+there_none x (Some b) e n = let gone : there x ≡ None = ap there n in never cc
 
-both : {A : Type 0} (x y : Option A) → there x ≡ there y → (x ≡ none) ↔ (y ≡ none)
+both : {A : Type 0} (x y : Option A) → there x ≡ there y → (x ≡ None) ↔ (y ≡ None)
 both x y e = (there_none x y e, there_none y x (sym e))
 
 module _ {L : Type 0} where
@@ -152,8 +152,8 @@ module _ {L : Type 0} where
       ∙ under-else (λ v. tt) (first_block l A p) (under (block l A) (leftmost p)) (first_block-hollow l A p) (simp under-under (leftmost-there p))
 
   -- whether a sequence has a ready operator of its own does not depend on what its blocks hold
-  pub leftmost-hollow : (p : Plan L) → (leftmost (hollow p) ≡ none) ↔ (leftmost p ≡ none)
+  pub leftmost-hollow : (p : Plan L) → (leftmost (hollow p) ≡ None) ↔ (leftmost p ≡ None)
   leftmost-hollow p = both (leftmost (hollow p)) (leftmost p) (leftmost-there p)
 
-  pub leftmost_alike : (p q : Plan L) → hollow p ≡ hollow q → (leftmost p ≡ none) ↔ (leftmost q ≡ none)
+  pub leftmost_alike : (p q : Plan L) → hollow p ≡ hollow q → (leftmost p ≡ None) ↔ (leftmost q ≡ None)
   leftmost_alike p q e = both (leftmost p) (leftmost q) (sym (leftmost-there p) ∙ ap (λ x. there (leftmost x)) e ∙ leftmost-there q)

@@ -3,7 +3,7 @@
 -- around that block. Then comes the rule of an operator, as it stands in a sequence. Last comes a sequence without what its blocks hold.
 -- The choice of a ready operator sees no more of it.
 use Rattle.std.specs.Prelude.{◌≡◌}
-use Rattle.std.proofs.Math.Option.{Option, none}
+use Rattle.std.specs.Prelude.{Option, None}
 use Rattle.plan.specs.Options.{◌else◌, under}
 use Rattle.plan.specs.declared.Operator.{Operator}
 use Rattle.plan.specs.declared.Operator.TheVariants.{A as op_a, B as op_b, C as op_c, D as op_d}
@@ -23,7 +23,7 @@ plug (within before l out after) q = plug out (before then block l q after)
 
 -- the rewrite that the order finds behind the sequence q, if there is one
 unfoldable pub beyond : {L : Type 0} → Frame L → Plan L → Option (Plan L)
-beyond top q = none
+beyond top q = None
 beyond (within before l out after) q =
     under (λ p. plug out (before then block l q p)) (inner after) else beyond out (before then block l q after)
 

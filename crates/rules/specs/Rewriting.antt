@@ -1,6 +1,6 @@
 -- The four rewrites and their order: document 01, "The four rewrites and their order".
 use Rattle.std.specs.Prelude.{Bool, List, ℕ}
-use Rattle.std.proofs.Math.Option.{Option, none, some}
+use Rattle.std.specs.Prelude.{Option, None, Some}
 use Rattle.plan.specs.Options.{◌else◌, is_none, under}
 use Rattle.plan.specs.declared.Operator.{Operator}
 use Rattle.plan.specs.declared.Operator.TheVariants.{A as op_a, B as op_b, C as op_c, D as op_d}
@@ -21,35 +21,35 @@ pub data ◌⟶◌ {L : Type 0} : Plan L → Plan L → Type 0 where
 
 -- the rewrite of the operator that comes right after the blocks [B] and [A]
 unfoldable pub after_two : {L : Type 0} → L → Plan L → L → Plan L → Plan L → Option (Plan L)
-after_two l B m A end = none
-after_two l B m A (operator n op_a p) = some (A then block l B p)
-after_two l B m A (operator n op_b p) = some (block m (block l B A) p)
-after_two l B m A (operator n op_c p) = none
-after_two l B m A (operator n op_d p) = none
-after_two l B m A (token n t p) = none
-after_two l B m A (block n C p) = none
+after_two l B m A end = None
+after_two l B m A (operator n op_a p) = Some (A then block l B p)
+after_two l B m A (operator n op_b p) = Some (block m (block l B A) p)
+after_two l B m A (operator n op_c p) = None
+after_two l B m A (operator n op_d p) = None
+after_two l B m A (token n t p) = None
+after_two l B m A (block n C p) = None
 
 -- the rewrite of a ready operator whose first block is [A], with p after it
 unfoldable pub first_block : {L : Type 0} → L → Plan L → Plan L → Option (Plan L)
-first_block l A end = none
-first_block l A (operator n op_a p) = none
-first_block l A (operator n op_b p) = none
-first_block l A (operator n op_c p) = some (block l A (block l A p))
-first_block l A (operator n op_d p) = some p
-first_block l A (token n t p) = none
+first_block l A end = None
+first_block l A (operator n op_a p) = None
+first_block l A (operator n op_b p) = None
+first_block l A (operator n op_c p) = Some (block l A (block l A p))
+first_block l A (operator n op_d p) = Some p
+first_block l A (token n t p) = None
 first_block l A (block m B p) = after_two l A m B p
 
 -- The leftmost ready operator of the sequence itself, rewritten. One whose first block is the first item stands left of
 -- every other that is ready.
 unfoldable pub leftmost : {L : Type 0} → Plan L → Option (Plan L)
-leftmost end = none
+leftmost end = None
 leftmost (operator l o p) = under (operator l o) (leftmost p)
 leftmost (token l t p) = under (token l t) (leftmost p)
 leftmost (block l A p) = first_block l A p else under (block l A) (leftmost p)
 
 -- the same rule used inside the first block that has a ready operator at any depth
 unfoldable pub inner : {L : Type 0} → Plan L → Option (Plan L)
-inner end = none
+inner end = None
 inner (operator l o p) = under (operator l o) (inner p)
 inner (token l t p) = under (token l t) (inner p)
 inner (block l A p) = under (λ B. block l B p) (leftmost A else inner A) else under (block l A) (inner p)

@@ -1,6 +1,6 @@
 -- A run with a quota and n cells: document 01, "RUN rewrites step by step".
 use Rattle.std.specs.Prelude.{ℕ, zero, suc, ◌≡◌, cond, leb}
-use Rattle.std.proofs.Math.Option.{Option, none, some}
+use Rattle.std.specs.Prelude.{Option, None, Some}
 use Rattle.rules.specs.declared.Ending.{Ending}
 use Rattle.rules.specs.declared.Ending.TheVariants.{Done, Quota, Full}
 use Rattle.plan.specs.Plan.{Plan, cells}
@@ -12,8 +12,8 @@ pub data Asked (L : Type 0) : Type 0 where
   GOES_ON : Plan L → Asked L
 
 unfoldable pub ask : {L : Type 0} → (n : ℕ) → Option (Plan L) → Asked L
-ask n none = ENDS Done
-ask n (some q) = cond (leb (cells q) n) (GOES_ON q) (ENDS Full)
+ask n None = ENDS Done
+ask n (Some q) = cond (leb (cells q) n) (GOES_ON q) (ENDS Full)
 
 -- how a run ended, the rewrites it made and the plan they led to
 pub data Ran (L : Type 0) : Type 0 where
@@ -34,4 +34,4 @@ run_plan n (suc quota) p = turn (ask n (next p)) p (λ q. one_step_more (run_pla
 -- q is what so many rewrites in the fixed order make of p
 abbrev pub Leads : {L : Type 0} → (steps : ℕ) → Plan L → Plan L → Type 0
 Leads zero p q = p ≡ q
-Leads {L} (suc steps) p q = (r : Plan L) × (next p ≡ some r) × Leads steps r q
+Leads {L} (suc steps) p q = (r : Plan L) × (next p ≡ Some r) × Leads steps r q

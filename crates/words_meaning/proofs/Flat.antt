@@ -2,7 +2,7 @@
 -- where it is.
 use Prim.Native.Nat.{ℕ}
 use mathlib.Core.Path.{◌≡◌, refl, ap, ◌∙◌}
-use mathlib.Core.Option.{Option, none, some}
+use Rattle.std.specs.Prelude.{Option, None as none, Some as some}
 use mathlib.Core.List.{List, [], ◌∷◌, ◌++◌, append_assoc}
 use Rattle.plan.specs.Plan.{Plan, end, operator, token, block}
 use Rattle.plan.specs.Pieces.{Piece, OP, TOKEN, END, pieces}

@@ -1,7 +1,7 @@
 -- Stock words: what a token `{%name}` stands for, and linking, which puts that where the token stands. Words are given the newest first, so
 -- that the words before a word are the rest of the list.
 use Rattle.std.specs.Prelude.{ℕ, Bool, false, cond, ◌||◌, List, [], ◌∷◌}
-use Rattle.std.proofs.Math.Option.{Option, none, some}
+use Rattle.std.specs.Prelude.{Option, None as none, Some as some}
 use Rattle.plan.specs.Plan.{Plan, end, operator, token, block, ◌then◌}
 use Rattle.plan.specs.Reading.{plan_of}
 use Rattle.stored.specs.Same.{same}

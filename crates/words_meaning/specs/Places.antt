@@ -1,7 +1,7 @@
 -- Linking, told by the places where tokens stand: which pieces come in each place, and how many cells. The laws show that this is the linked
 -- plan, so every other token, every operator and every block stays, in order.
 use Rattle.std.specs.Prelude.{ℕ, ◌+◌, List, [], ◌∷◌, ◌++◌}
-use Rattle.std.proofs.Math.Option.{Option, none, some}
+use Rattle.std.specs.Prelude.{Option, None as none, Some as some}
 use Rattle.plan.specs.Plan.{Plan, end, operator, token, block, cells}
 use Rattle.plan.specs.Pieces.{Piece, OP, TOKEN, BEGIN, END, pieces}
 

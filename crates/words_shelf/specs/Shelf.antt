@@ -1,6 +1,6 @@
 -- The words of a list, by the spans that are kept of them, and which of the first words a token names.
 use Rattle.std.specs.Prelude.{ℕ, zero, suc, ◌≤◌, ◌<◌, cond, List, [], ◌∷◌, length}
-use Rattle.std.proofs.Math.Option.{Option}
+use Rattle.std.specs.Prelude.{Option}
 use Rattle.kinds.specs.declared.Token.{Token}
 use Rattle.kinds.specs.Limits.{text_limit, token_limit}
 use Rattle.plan.specs.Plan.{Plan}
