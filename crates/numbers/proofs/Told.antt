@@ -8,8 +8,6 @@ use native.Mathlib.Omega.{arith}
 use lib.Dec.{eqb}
 use borrow.Author.Rules.{rules}
 use borrow.Author.Tests.{ne_eqb}
-use Rattle.plan.specs.declared.ReadAnswer.{ReadAnswer}
-use Rattle.plan.specs.declared.ReadAnswer.TheVariants.{Read, Refused}
 use Rattle.plan.specs.declared.ReadRefusal.{ReadRefusal}
 use Rattle.plan.specs.declared.ReadRefusal.TheVariants.{NotRead, OutShort}
 use Rattle.plan.specs.declared.TextFault.{TextFault}
@@ -18,9 +16,17 @@ use Rattle.plan.specs.declared.TokenFault.{TokenFault}
 use Rattle.plan.specs.declared.TokenFault.TheVariants.{Empty, Long, BadUtf8, Forbidden, InnerBrace}
 use Rattle.plan.specs.declared.Unread.{Unread}
 use Rattle.plan.specs.declared.Unread.TheVariants.{Text, Overfull}
+use Rattle.plan.specs.Read.{ReadAnswer}
 use Rattle.plan.specs.Reading.{place}
+use Rattle.std.specs.Prelude.{Err, MatchResult, Ok, Result}
 use Rattle.numbers.specs.declared.Numbers.{Numbers}
 use Rattle.numbers.specs.Numbers.{fault_number, fault_place, read_numbers, read_refusal_numbers, token_fault_number, unread_numbers}
+
+-- An answer is told by the numbers of what it gives, or by those of its refusal: this is what `Numbers::from` says of it.
+pub told : {A E : Type 0} (numbers : Result A E → Numbers) (r : Result A E) {n : Numbers}
+    → MatchResult r (λ a. n ≡ numbers (Ok a)) (λ e. n ≡ numbers (Err e)) → n ≡ numbers r
+told numbers (Ok a) h = h
+told numbers (Err e) h = h
 
 -- a token's faults have the numbers 21 to 25
 -- a theorem of tokens' faults
@@ -113,8 +119,8 @@ read_refusal_with_its_own (NotRead u) = rw (ne_eqb _ _ (unread_number_is u).no_o
 read_refusal_with_its_own (OutShort needed) = refl
 
 -- an answer with a refusal's five numbers is that refusal
-pub same-read_refusal : (r : ReadAnswer) (x : ReadRefusal) → read_numbers r ≡ read_refusal_numbers x → r ≡ Refused x
-same-read_refusal (Read c l) x h = absurd (omega (arith, (read_refusal_number_is x).over, ap (λ (v : Numbers). v.number) h))
-same-read_refusal (Refused y) x h =
-    ap Refused
+pub same-read_refusal : (r : ReadAnswer) (x : ReadRefusal) → read_numbers r ≡ read_refusal_numbers x → r ≡ Err x
+same-read_refusal (Ok s) x h = absurd (omega (arith, (read_refusal_number_is x).over, ap (λ (v : Numbers). v.number) h))
+same-read_refusal (Err y) x h =
+    ap Err
     (sym (read_refusal_with_its_own y) ∙ ap (λ (v : Numbers). read_refusal_with v.number v.place) h ∙ read_refusal_with_its_own x)

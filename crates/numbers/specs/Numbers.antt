@@ -1,9 +1,7 @@
 -- The five numbers by which an answer is told: document 01's table. Every service that reads a text shares some of them. The others are
 -- READ's. Request 1 of document 02 splits 14.
-use Rattle.std.specs.Prelude.{ℕ}
+use Rattle.std.specs.Prelude.{ℕ, Ok, Err}
 use Rattle.numbers.specs.declared.Numbers.{Numbers}
-use Rattle.plan.specs.declared.ReadAnswer.{ReadAnswer}
-use Rattle.plan.specs.declared.ReadAnswer.TheVariants.{Read, Refused}
 use Rattle.plan.specs.declared.ReadRefusal.{ReadRefusal}
 use Rattle.plan.specs.declared.ReadRefusal.TheVariants.{NotRead, OutShort}
 use Rattle.plan.specs.declared.TextFault.{TextFault}
@@ -12,6 +10,7 @@ use Rattle.plan.specs.declared.TokenFault.{TokenFault}
 use Rattle.plan.specs.declared.TokenFault.TheVariants.{Empty, Long, BadUtf8, Forbidden, InnerBrace}
 use Rattle.plan.specs.declared.Unread.{Unread}
 use Rattle.plan.specs.declared.Unread.TheVariants.{Text, Overfull}
+use Rattle.plan.specs.Read.{ReadAnswer}
 
 abbrev pub token_fault_number : TokenFault → ℕ
 token_fault_number Empty = 21
@@ -59,5 +58,5 @@ read_refusal_numbers (NotRead u) = unread_numbers u
 read_refusal_numbers (OutShort needed) = outshort_numbers needed
 
 abbrev pub read_numbers : ReadAnswer → Numbers
-read_numbers (Read cells length) = given_numbers cells length
-read_numbers (Refused r) = read_refusal_numbers r
+read_numbers (Ok s) = given_numbers s.cells s.length
+read_numbers (Err r) = read_refusal_numbers r

@@ -1,18 +1,40 @@
 // The five numbers of an answer: READ's own, and those that are the same for every service that reads a text.
 #![tactic(auto)]
 
-ghost use Rattle.std.specs.Prelude.{◌≡◌};
-ghost use Rattle.numbers.specs.Numbers.{token_fault_number, fault_number, fault_place, refused_numbers, fault_numbers, unread_numbers, outshort_numbers, given_numbers, read_refusal_numbers, read_numbers};
+ghost use Rattle.std.specs.Prelude.{◌≡◌, MatchResult};
+ghost use Rattle.numbers.specs.Numbers.{token_fault_number, fault_number, fault_place, refused_numbers, fault_numbers, unread_numbers, outshort_numbers, given_numbers, read_refusal_numbers};
 
-use plan::{ReadAnswer, ReadRefusal, TextFault, TokenFault, Unread};
+use plan::{ReadRefusal, Size, TextFault, TokenFault, Unread};
 
-#[derive(Clone, Copy)]
+#[derive(Clone, Copy, PartialEq, Eq)]
 pub struct Numbers {
     pub number: u32,
     pub steps: u32,
     pub cells: u32,
     pub length: u32,
     pub place: u32,
+}
+
+impl Numbers {
+    // A refusal has no steps, no cells and no length.
+    pub fn refused(number: u32, place: u32) -> Numbers
+        ensures { result ≡ refused_numbers number place }
+    {
+        Numbers {
+            number,
+            steps: 0,
+            cells: 0,
+            length: 0,
+            place,
+        }
+    }
+
+    // OUTSHORT, with the bytes needed.
+    pub fn out_short(needed: u32) -> Numbers
+        ensures { result ≡ outshort_numbers needed }
+    {
+        Numbers::refused(18, needed)
+    }
 }
 
 fn token_fault_number(fault: TokenFault) -> u32
@@ -33,7 +55,7 @@ fn fault_number(fault: TextFault) -> u32
     match fault {
         TextFault::TooLong => 11,
         TextFault::BadByte(_) => 13,
-        TextFault::BadToken { fault, at } => token_fault_number(fault),
+        TextFault::BadToken { fault, .. } => token_fault_number(fault),
         TextFault::Unmatched(_) => 15,
         TextFault::Unclosed(_) => 16,
     }
@@ -44,76 +66,70 @@ fn fault_place(fault: TextFault) -> u32
 {
     match fault {
         TextFault::TooLong => 0,
-        TextFault::BadByte(at) => at.0,
-        TextFault::BadToken { fault, at } => at.0,
-        TextFault::Unmatched(at) => at.0,
-        TextFault::Unclosed(at) => at.0,
-    }
-}
-
-// A refusal has no steps, no cells and no length.
-pub fn refused(number: u32, place: u32) -> Numbers
-    ensures { result ≡ refused_numbers number place }
-{
-    Numbers {
-        number,
-        steps: 0,
-        cells: 0,
-        length: 0,
-        place,
+        TextFault::BadByte(at)
+        | TextFault::BadToken { at, .. }
+        | TextFault::Unmatched(at)
+        | TextFault::Unclosed(at) => at.0,
     }
 }
 
 // A fault of a text is told in the same way by every service.
-pub fn of_fault(fault: TextFault) -> Numbers
-    ensures { result ≡ fault_numbers fault }
-{
-    refused(fault_number(fault), fault_place(fault))
-}
+impl From<TextFault> for Numbers {
+    ghost from_gives = { λ f n. n ≡ fault_numbers f };
 
-pub fn of_unread(why: Unread) -> Numbers
-    ensures { result ≡ unread_numbers why }
-{
-    match why {
-        Unread::Text(fault) => of_fault(fault),
-        Unread::Overfull(past) => refused(17, past.0),
+    fn from(fault: TextFault) -> Numbers {
+        Numbers::refused(fault_number(fault), fault_place(fault))
     }
 }
 
-// OUTSHORT, with the bytes needed.
-pub fn out_short(needed: u32) -> Numbers
-    ensures { result ≡ outshort_numbers needed }
-{
-    refused(18, needed)
+impl From<Unread> for Numbers {
+    ghost from_gives = { λ u n. n ≡ unread_numbers u };
+
+    fn from(why: Unread) -> Numbers {
+        match why {
+            Unread::Text(fault) => fault.into(),
+            Unread::Overfull(past) => Numbers::refused(17, past.0),
+        }
+    }
+}
+
+impl From<ReadRefusal> for Numbers {
+    ghost from_gives = { λ r n. n ≡ read_refusal_numbers r };
+
+    fn from(refusal: ReadRefusal) -> Numbers {
+        match refusal {
+            ReadRefusal::NotRead(why) => why.into(),
+            ReadRefusal::OutShort(needed) => Numbers::out_short(needed),
+        }
+    }
 }
 
 // READ: nothing was rewritten.
-pub fn given(cells: u32, length: u32) -> Numbers
-    ensures { result ≡ given_numbers cells length }
-{
-    Numbers {
-        number: 3,
-        steps: 0,
-        cells,
-        length,
-        place: 0,
+impl From<Size> for Numbers {
+    ghost from_gives = { λ s n. n ≡ given_numbers s.cells s.length };
+
+    fn from(size: Size) -> Numbers {
+        Numbers {
+            number: 3,
+            steps: 0,
+            cells: size.cells,
+            length: size.length,
+            place: 0,
+        }
     }
 }
 
-fn of_read_refusal(refusal: ReadRefusal) -> Numbers
-    ensures { result ≡ read_refusal_numbers refusal }
+// What a service answers is told by the numbers of what it gives, or by those of why it refuses.
+impl<A, E> From<Result<A, E>> for Numbers
+where
+    Numbers: From<A> + From<E>,
 {
-    match refusal {
-        ReadRefusal::NotRead(why) => of_unread(why),
-        ReadRefusal::OutShort(needed) => out_short(needed),
-    }
-}
+    ghost from_gives = { λ r n. MatchResult r (λ a. ⟦<Numbers as From<A>>⟧.from_gives a n) (λ e. ⟦<Numbers as From<E>>⟧.from_gives e n) };
 
-pub fn of_read(answer: ReadAnswer) -> Numbers
-    ensures { result ≡ read_numbers answer }
-{
-    match answer {
-        ReadAnswer::Read { cells, length } => given(cells, length),
-        ReadAnswer::Refused(refusal) => of_read_refusal(refusal),
+    fn from(answer: Result<A, E>) -> Numbers {
+        match answer {
+            Ok(given) => Numbers::from(given),
+            Err(refusal) => Numbers::from(refusal),
+        }
     }
 }
