@@ -1,15 +1,14 @@
 -- Laws of numbers and of counted bytes at the front of bytes: where they stand, that what was written is read, and what a cut leaves.
-use Prim.Native.Nat.{ℕ, suc, ◌+◌, ◌≤◌, ◌<◌}
-use mathlib.Core.Path.{◌≡◌, refl, ap, ◌∙◌}
+use Prim.Native.Nat.{ℕ, ◌+◌, ◌≤◌, ◌<◌}
+use mathlib.Core.Path.{◌≡◌, refl}
 use mathlib.Core.Bool.{Bool, true, false, cond}
 use mathlib.Core.List.{List, [], ◌∷◌}
 use native.Mathlib.Omega.{arith}
 use borrow.Author.Tests.{leb-true}
 use lib.Dec.{leb}
-use lib.ListN.{length, take, drop, get_or, length-drop}
-use lib.Seq.{drop-cons}
+use lib.ListN.{length, take, drop, length-drop}
 use Rattle.kinds.proofs.Tests.{never}
-use Rattle.stored.specs.Counted.{AtFront, CUT, FRONT, counted, four, number, so_many, then_read, two_counted}
+use Rattle.stored.specs.Counted.{AtFront, CUT, FRONT, counted, number, so_many, then_read, two_counted}
 
 -- one thing and then another was read: the first left what the second was read from
 pub then-parts : {A B : Type 0} (x : AtFront A) (go : A → List ℕ → AtFront B) {b : B} {rest : List ℕ} → then_read x go ≡ FRONT b rest
@@ -19,22 +18,6 @@ then-parts CUT go e = never cc
 then-parts (FRONT a between) go e = (a, between, refl, e)
 
 -- a number at a place
-pub number-whole : (bytes : List ℕ) (at : ℕ) → at + 4 ≤ length bytes
-    → number (drop at bytes) ≡ FRONT (four (get_or bytes at 0) (get_or bytes (at + 1) 0) (get_or bytes (at + 2) 0) (get_or bytes (at + 3) 0)) (drop (at + 4) bytes)
-unfolding number
-number-whole bytes at h = ap number all
-  where
-    same : (j k : ℕ) → j ≡ k → drop j bytes ≡ drop k bytes
-    same j k e = ap (λ i. drop i bytes) e
-
-    all : drop at bytes ≡ get_or bytes at 0 ∷ get_or bytes (at + 1) 0 ∷ get_or bytes (at + 2) 0 ∷ get_or bytes (at + 3) 0 ∷ drop (at + 4) bytes
-    all =
-        drop-cons bytes at 0 (omega arith)
-        ∙ ap (get_or bytes at 0 ∷◌) (same (suc at) (at + 1) (omega arith) ∙ drop-cons bytes (at + 1) 0 (omega arith))
-        ∙ ap (λ r. get_or bytes at 0 ∷ get_or bytes (at + 1) 0 ∷ r) (same (suc (at + 1)) (at + 2) (omega arith) ∙ drop-cons bytes (at + 2) 0 (omega arith))
-        ∙ ap (λ r. get_or bytes at 0 ∷ get_or bytes (at + 1) 0 ∷ get_or bytes (at + 2) 0 ∷ r)
-        (same (suc (at + 2)) (at + 3) (omega arith) ∙ drop-cons bytes (at + 3) 0 (omega arith) ∙ ap (get_or bytes (at + 3) 0 ∷◌) (same (suc (at + 3)) (at + 4) (omega arith)))
-
 short_number : (bs : List ℕ) → length bs < 4 → number bs ≡ CUT
 unfolding number
 short_number [] h = refl

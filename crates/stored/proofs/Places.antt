@@ -1,19 +1,18 @@
 -- What the code finds at a place is what stands at the front of the bytes from there on.
-use Prim.Native.Nat.{ℕ, ◌+◌, ◌-◌, ◌≤◌, ◌<◌}
+use Prim.Native.Nat.{ℕ, ◌+◌, ◌*◌, ◌-◌, ◌≤◌, ◌<◌}
 use mathlib.Core.Path.{◌≡◌, refl, ap, ap₂, sym, subst, ◌∙◌}
-use mathlib.Core.List.{List}
+use mathlib.Core.List.{List, [], ◌∷◌}
 use native.Mathlib.Omega.{arith}
+use Rattle.std.specs.Prelude.{Some, None, slice_index, slice_range}
 use borrow.Author.Tests.{le-leb, lt-leb}
-use lib.ListN.{length, take, drop, get_or, length-drop}
-use lib.Seq.{drop-drop, length-take-le}
+use lib.ListN.{length, take, drop, length-drop}
+use lib.Seq.{drop-drop, length-take-le, take-length}
 use Rattle.kinds.proofs.Tests.{never}
-use Rattle.stored.specs.Counted.{AtFront, CUT, FRONT, counted, four, number, so_many, then_read}
+use Rattle.stored.specs.Counted.{AtFront, CUT, FRONT, counted, number, so_many, then_read}
 use Rattle.stored.specs.Places.{number_at, number_told, counted_at, counted_told}
 use Rattle.stored.specs.Spans.{SpanWithin, part, span}
 use Rattle.stored.specs.declared.Span.{Span}
-use Rattle.stored.specs.declared.NumberAt.TheVariants.{Cut as NumberCut, Whole as WholeNumber}
-use Rattle.stored.specs.declared.CountedAt.TheVariants.{Cut as CountedCut, Whole as WholeCounted}
-use Rattle.stored.proofs.Counted.{number_cut, number_front, number-whole, so_many-parts, then-parts}
+use Rattle.stored.proofs.Counted.{number_cut, number_front, so_many-parts, then-parts}
 
 -- what counted bytes that are found say of all bytes: they stand behind their count, and the rest behind them
 pub record RunFound (bytes : List ℕ) (at : ℕ) (s : Span) : Type 0 where
@@ -22,65 +21,78 @@ pub record RunFound (bytes : List ℕ) (at : ℕ) (s : Span) : Type 0 where
   pub front : counted (drop at bytes) ≡ FRONT (part bytes s) (drop (s.at + s.len) bytes)
 
 module _ (bytes : List ℕ) (at : ℕ) where
-  pub number_at-cut : length bytes < at + 4 → NumberCut ≡ number_at bytes at
+  -- all bytes from a place on
+  pub slice_rest : slice_range bytes at (length bytes) ≡ drop at bytes
+  slice_rest = ap (λ k. take k (drop at bytes)) (sym (length-drop at bytes)) ∙ take-length (drop at bytes)
+
+  pub number_at-cut : length bytes < at + 4 → None ≡ number_at bytes at
   unfolding number_at
   number_at-cut h = ap number_told (sym (number_cut bytes at h))
 
-  pub number_at-whole : at + 4 ≤ length bytes → (n : ℕ)
-      → n ≡ four (get_or bytes at 0) (get_or bytes (at + 1) 0) (get_or bytes (at + 2) 0) (get_or bytes (at + 3) 0) → WholeNumber n ≡ number_at bytes at
-  unfolding number_at
-  number_at-whole h n e = ap WholeNumber e ∙ ap number_told (sym (number-whole bytes at h))
+  -- of the bytes from there on, the first four
+  pub number_at-whole : {front : List ℕ} → 4 ≤ length (drop at bytes) → front ≡ take 4 (drop at bytes) → (n : ℕ)
+      → n ≡ slice_index front 0 + slice_index front 1 * 256 + slice_index front 2 * 65536 + slice_index front 3 * 16777216 → Some n ≡ number_at bytes at
+  unfolding number_at number
+  number_at-whole {front} enough first n e = go (drop at bytes) enough first
+    where
+      go : (bs : List ℕ) → 4 ≤ length bs → front ≡ take 4 bs → Some n ≡ number_told (number bs)
+      go [] h f = absurd (omega arith)
+      go (a ∷ []) h f = absurd (omega arith)
+      go (a ∷ b ∷ []) h f = absurd (omega arith)
+      go (a ∷ b ∷ c ∷ []) h f = absurd (omega arith)
+      go (a ∷ b ∷ c ∷ d ∷ bs) h f =
+          ap Some (e ∙ ap (λ l. slice_index l 0 + slice_index l 1 * 256 + slice_index l 2 * 65536 + slice_index l 3 * 16777216) f ∙ omega arith)
 
   -- a number that is found stands within the bytes, and the rest behind it
-  pub number_found : {n : ℕ} → number_at bytes at ≡ WholeNumber n → (at + 4 ≤ length bytes) × (number (drop at bytes) ≡ FRONT n (drop (at + 4) bytes))
+  pub number_found : {n : ℕ} → number_at bytes at ≡ Some n → (at + 4 ≤ length bytes) × (number (drop at bytes) ≡ FRONT n (drop (at + 4) bytes))
   unfolding number_at
   number_found {n} e = go (number (drop at bytes)) refl e
     where
-      go : (x : AtFront ℕ) → number (drop at bytes) ≡ x → number_told x ≡ WholeNumber n → (at + 4 ≤ length bytes) × (number (drop at bytes) ≡ FRONT n (drop (at + 4) bytes))
+      go : (x : AtFront ℕ) → number (drop at bytes) ≡ x → number_told x ≡ Some n → (at + 4 ≤ length bytes) × (number (drop at bytes) ≡ FRONT n (drop (at + 4) bytes))
       go CUT h told = never cc
       go (FRONT m rest) h told =
           let (long, behind) = number_front (drop at bytes) h in
           let same : m ≡ n = cc in
           (omega (arith, length-drop at bytes), h ∙ ap₂ FRONT same (behind ∙ drop-drop 4 at bytes))
 
-  pub number_lost : number_at bytes at ≡ NumberCut → number (drop at bytes) ≡ CUT
+  pub number_lost : number_at bytes at ≡ None → number (drop at bytes) ≡ CUT
   unfolding number_at
   number_lost e = go (number (drop at bytes)) refl e
     where
-      go : (x : AtFront ℕ) → number (drop at bytes) ≡ x → number_told x ≡ NumberCut → number (drop at bytes) ≡ CUT
+      go : (x : AtFront ℕ) → number (drop at bytes) ≡ x → number_told x ≡ None → number (drop at bytes) ≡ CUT
       go CUT h told = h
       go (FRONT n rest) h told = never cc
 
   -- counted bytes are cut with their count, or behind it, or whole
-  pub counted_at-cut : number_at bytes at ≡ NumberCut → CountedCut ≡ counted_at bytes at
+  pub counted_at-cut : number_at bytes at ≡ None → None ≡ counted_at bytes at
   unfolding counted_at number_at counted then_read
   counted_at-cut e = go (number (drop at bytes)) e
     where
-      go : (x : AtFront ℕ) → number_told x ≡ NumberCut → CountedCut ≡ counted_told at (then_read x so_many)
+      go : (x : AtFront ℕ) → number_told x ≡ None → None ≡ counted_told at (then_read x so_many)
       go CUT told = refl
       go (FRONT m rest) told = never cc
 
-  module _ {n : ℕ} (found : number_at bytes at ≡ WholeNumber n) where
+  module _ {n : ℕ} (found : number_at bytes at ≡ Some n) where
     counted_so : counted (drop at bytes) ≡ so_many n (drop (at + 4) bytes)
     unfolding counted then_read
     counted_so = ap (λ x. then_read x so_many) (number_found found).1
 
-    pub counted_at_short : length bytes - (at + 4) < n → CountedCut ≡ counted_at bytes at
+    pub counted_at_short : length bytes - (at + 4) < n → None ≡ counted_at bytes at
     unfolding counted_at so_many
     counted_at_short h = sym (ap (counted_told at) counted_so ∙ rw (lt-leb n (length (drop (at + 4) bytes)) (omega (arith, length-drop (at + 4) bytes))) refl)
 
-    pub counted_at-whole : n ≤ length bytes - (at + 4) → WholeCounted (span (at + 4) n) ≡ counted_at bytes at
+    pub counted_at-whole : n ≤ length bytes - (at + 4) → Some (span (at + 4) n) ≡ counted_at bytes at
     unfolding counted_at so_many
     counted_at-whole h =
         let within : n ≤ length (drop (at + 4) bytes) = omega (arith, length-drop (at + 4) bytes) in
-        sym (ap (counted_told at) counted_so ∙ rw (le-leb n (length (drop (at + 4) bytes)) within) (ap (λ k. WholeCounted (span (at + 4) k)) (length-take-le n (drop (at + 4) bytes) within)))
+        sym (ap (counted_told at) counted_so ∙ rw (le-leb n (length (drop (at + 4) bytes)) within) (ap (λ k. Some (span (at + 4) k)) (length-take-le n (drop (at + 4) bytes) within)))
 
   -- and what the code's answer says of the bytes
-  pub counted_lost : counted_at bytes at ≡ CountedCut → counted (drop at bytes) ≡ CUT
+  pub counted_lost : counted_at bytes at ≡ None → counted (drop at bytes) ≡ CUT
   unfolding counted_at
   counted_lost e = go (counted (drop at bytes)) refl e
     where
-      go : (x : AtFront (List ℕ)) → counted (drop at bytes) ≡ x → counted_told at x ≡ CountedCut → counted (drop at bytes) ≡ CUT
+      go : (x : AtFront (List ℕ)) → counted (drop at bytes) ≡ x → counted_told at x ≡ None → counted (drop at bytes) ≡ CUT
       go CUT h told = h
       go (FRONT given rest) h told = never cc
 
@@ -98,11 +110,11 @@ module _ (bytes : List ℕ) (at : ℕ) where
         left ∙ ap (drop n) same ∙ drop-drop n (at + 4) bytes ∙ ap (λ k. drop (at + 4 + k) bytes) (sym size),
       )
 
-  pub counted_found : {s : Span} → counted_at bytes at ≡ WholeCounted s → RunFound bytes at s
+  pub counted_found : {s : Span} → counted_at bytes at ≡ Some s → RunFound bytes at s
   unfolding counted_at
   counted_found {s} e = go (counted (drop at bytes)) refl e
     where
-      go : (x : AtFront (List ℕ)) → counted (drop at bytes) ≡ x → counted_told at x ≡ WholeCounted s → RunFound bytes at s
+      go : (x : AtFront (List ℕ)) → counted (drop at bytes) ≡ x → counted_told at x ≡ Some s → RunFound bytes at s
       go CUT h told = never cc
       go (FRONT given rest) h told =
           let same : span (at + 4) (length given) ≡ s = cc in

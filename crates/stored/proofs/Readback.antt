@@ -1,24 +1,15 @@
 -- What was written is read: a number that fits into four bytes, and bytes behind their count.
-use Prim.Native.Nat.{ℕ, ◌+◌, ◌*◌, ◌/◌, ◌%◌, ◌≤◌}
-use mathlib.Core.Path.{◌≡◌, refl, ap, ◌∙◌}
+use Prim.Native.Nat.{ℕ, ◌/◌, ◌%◌, ◌≤◌}
+use mathlib.Core.Path.{◌≡◌, ap, ◌∙◌}
 use mathlib.Core.List.{List, ◌++◌, append_assoc}
 use native.Mathlib.Omega.{arith}
-use native.Mathlib.Nat.{div-add-mod', div-div-eq-div-mul, mod-eq_of_lt}
 use lib.ListN.{length}
+use Rattle.std.proofs.lemmas.Nat.{from_le_bytes-to_le_bytes_4}
 use Rattle.stored.specs.Counted.{FRONT, counted, four, four_bytes, largest, number, so_many, then_read, with_count}
 use Rattle.stored.proofs.Exact.{exact_bytes}
 
--- the lowest byte and the rest
-apart : (n q r : ℕ) → n / 256 ≡ q → n % 256 ≡ r → n ≡ r + 256 * q
-apart n q r e f = omega (arith, div-add-mod' n 256, e, f)
-
 four_back : (n : ℕ) → n ≤ largest → four (n % 256) (n / 256 % 256) (n / 65536 % 256) (n / 16777216 % 256) ≡ n
-four_back n h =
-    let a = apart n (n / 256) (n % 256) refl refl in
-    let b = apart (n / 256) (n / 65536) (n / 256 % 256) (div-div-eq-div-mul n 256 256) refl in
-    let c = apart (n / 65536) (n / 16777216) (n / 65536 % 256) (div-div-eq-div-mul n 65536 256) refl in
-    let d : n / 16777216 % 256 ≡ n / 16777216 = mod-eq_of_lt (omega (arith, a, b, c)) in
-    omega (arith, a, b, c, d)
+four_back n h = omega (arith, from_le_bytes-to_le_bytes_4 n (omega arith))
 
 pub number_back : (n : ℕ) (more : List ℕ) → n ≤ largest → number (four_bytes n ++ more) ≡ FRONT n more
 unfolding number four_bytes

@@ -1,5 +1,5 @@
 -- What is written at a place: the stores of a number's bytes, and those of bytes behind their count, are what is put there.
-use Prim.Native.Nat.{ℕ, suc, ◌+◌, ◌-◌, ◌/◌, ◌%◌, ◌≤◌}
+use Prim.Native.Nat.{ℕ, suc, ◌+◌, ◌-◌, ◌≤◌}
 use mathlib.Core.Path.{◌≡◌, ap, ap₂, sym, ◌∙◌}
 use mathlib.Core.List.{List, [], ◌∷◌, ◌++◌, append_assoc, append-nil}
 use native.Mathlib.Omega.{arith}
@@ -17,11 +17,6 @@ four_stores l at a b c d h =
     let two : at + 2 ≡ suc (suc at) = omega arith in
     let three : at + 3 ≡ suc (suc (suc at)) = omega arith in
     rw (one, two, three) (sets-eq (a ∷ b ∷ c ∷ d ∷ []) l at h)
-
-pub number_stored : (l : List ℕ) (at n : ℕ) → at + 4 ≤ length l
-    → set (set (set (set l at (n % 256)) (at + 1) (n / 256 % 256)) (at + 2) (n / 65536 % 256)) (at + 3) (n / 16777216 % 256) ≡ put_at l at (four_bytes n)
-unfolding four_bytes
-number_stored l at n h = four_stores l at (n % 256) (n / 256 % 256) (n / 65536 % 256) (n / 16777216 % 256) h
 
 -- a part of the bytes that was lent to be written and is back
 pub bytes_stored : (l given last : List ℕ) (at : ℕ) → at + length given ≤ length l

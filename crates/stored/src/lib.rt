@@ -4,7 +4,7 @@
 
 ghost use Rattle.std.specs.Prelude.{◌≡◌, ◌+◌, ◌≤◌, ◌<◌, ◌^◌, length};
 ghost use Rattle.kinds.specs.Written.{put_at};
-ghost use Rattle.stored.specs.Counted.{four, four_bytes, with_count};
+ghost use Rattle.stored.specs.Counted.{four_bytes, with_count};
 ghost use Rattle.stored.specs.Places.{number_at, counted_at, two_counted_at};
 ghost use Rattle.stored.specs.Spans.{SpanWithin, part};
 
@@ -21,25 +21,14 @@ pub struct Span {
     pub len: usize,
 }
 
-// A number at a place.
-#[derive(Clone, Copy)]
-pub enum NumberAt {
-    Cut,
-    Whole(u32),
-}
-
-// Bytes at a place, behind their count.
-#[derive(Clone, Copy)]
-pub enum CountedAt {
-    Cut,
-    Whole(Span),
-}
-
-// Two of these at a place, one behind the other.
-#[derive(Clone, Copy)]
-pub enum TwoCountedAt {
-    Cut,
-    Both { first: Span, second: Span },
+impl Span {
+    // The place behind them.
+    pub fn end(self) -> usize
+        requires { self.at + self.len < 2 ^ 64 }
+        ensures { result ≡ self.at + self.len }
+    {
+        self.at + self.len
+    }
 }
 
 // The bytes that a span names.
@@ -47,65 +36,36 @@ pub fn part(bytes: &[u8], span: Span) -> &[u8]
     requires { SpanWithin bytes.now span }
     ensures { result.now ≡ part bytes.now span }
 {
-    let at = span.at;
-    let end = at + span.len;
-    &bytes[at..end]
+    &bytes[span.at..span.end()]
 }
 
-fn joined(a: u8, b: u8, c: u8, d: u8) -> u32
-    ensures { result ≡ four a b c d }
-{
-    a as u32 + 256 * b as u32 + 65_536 * c as u32 + 16_777_216 * d as u32
-}
-
-pub fn number_at(bytes: &[u8], at: usize) -> NumberAt
+// The number at a place, or that it is cut.
+pub fn number_at(bytes: &[u8], at: usize) -> Option<u32>
     ensures { result ≡ number_at bytes.now at }
 {
-    if bytes.len() < NUMBER {
-        return NumberAt::Cut;
-    }
-    if bytes.len() - NUMBER < at {
-        return NumberAt::Cut;
-    }
-    NumberAt::Whole(joined(bytes[at], bytes[at + 1], bytes[at + 2], bytes[at + 3]))
+    let number = bytes.get(at..)?.first_chunk()?;
+    Some(u32::from_le_bytes(*number))
 }
 
-pub fn counted_at(bytes: &[u8], at: usize) -> CountedAt
+// The bytes at a place, behind their count, or that they are cut.
+pub fn counted_at(bytes: &[u8], at: usize) -> Option<Span>
     ensures { result ≡ counted_at bytes.now at }
 {
-    match number_at(bytes, at) {
-        NumberAt::Cut => CountedAt::Cut,
-        NumberAt::Whole(count) => {
-            let from = at + NUMBER;
-            let len = count as usize;
-            if bytes.len() - from < len {
-                return CountedAt::Cut;
-            }
-            CountedAt::Whole(Span { at: from, len })
-        }
+    let len = number_at(bytes, at)? as usize;
+    let from = at + NUMBER;
+    if bytes.len() - from < len {
+        return None;
     }
+    Some(Span { at: from, len })
 }
 
-pub fn two_counted_at(bytes: &[u8], at: usize) -> TwoCountedAt
+// Two of these at a place, one behind the other.
+pub fn two_counted_at(bytes: &[u8], at: usize) -> Option<(Span, Span)>
     ensures { result ≡ two_counted_at bytes.now at }
 {
-    let CountedAt::Whole(first) = counted_at(bytes, at) else {
-        return TwoCountedAt::Cut;
-    };
-    match counted_at(bytes, first.at + first.len) {
-        CountedAt::Cut => TwoCountedAt::Cut,
-        CountedAt::Whole(second) => TwoCountedAt::Both { first, second },
-    }
-}
-
-pub fn put_number(bytes: &mut [u8], at: usize, number: u32)
-    requires { at + 4 ≤ length bytes.old }
-    ensures { bytes.new ≡ put_at bytes.old at (four_bytes number) }
-{
-    bytes[at] = (number % 256) as u8;
-    bytes[at + 1] = (number / 256 % 256) as u8;
-    bytes[at + 2] = (number / 65_536 % 256) as u8;
-    bytes[at + 3] = (number / 16_777_216 % 256) as u8;
+    let first = counted_at(bytes, at)?;
+    let second = counted_at(bytes, first.end())?;
+    Some((first, second))
 }
 
 // Writes bytes at a place, without a count.
@@ -114,6 +74,13 @@ fn put_bytes(bytes: &mut [u8], at: usize, given: &[u8])
     ensures { bytes.new ≡ put_at bytes.old at given.now }
 {
     bytes[at..at + given.len()].copy_from_slice(given);
+}
+
+pub fn put_number(bytes: &mut [u8], at: usize, number: u32)
+    requires { at + 4 ≤ length bytes.old }
+    ensures { bytes.new ≡ put_at bytes.old at (four_bytes number) }
+{
+    put_bytes(bytes, at, &number.to_le_bytes());
 }
 
 pub fn put_counted(bytes: &mut [u8], at: usize, given: &[u8])

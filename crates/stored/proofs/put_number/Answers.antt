@@ -1,7 +1,9 @@
--- `put_number`: four stores, one after the other.
-use Rattle.std.proofs.Common.{arith}
-use Rattle.stored.proofs.Written.{number_stored}
+-- `put_number`: the number's bytes, put there.
+use Rattle.std.proofs.Common.{ap, ◌∙◌}
+use Rattle.kinds.specs.Written.{put_at}
+use Rattle.stored.specs.Counted.{four_bytes}
 use Rattle.stored.proofs.put_number.Goals as goal
 
 pub returns : goal.returns
-returns c = number_stored c.args.bytes.now c.args.at c.args.number (omega arith)
+unfolding four_bytes
+returns c = c.put_bytes.ensures ∙ ap (put_at c.args.bytes.now c.args.at) c.to_le_bytes.ensures

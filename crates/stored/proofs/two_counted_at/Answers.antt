@@ -1,17 +1,18 @@
 -- `two_counted_at`: the first or the second is cut, or both are whole.
-use Rattle.std.proofs.Common.{rules, sym, ◌∙◌}
+use Rattle.std.proofs.Common.{rules, ap, sym, ◌∙◌}
+use Rattle.stored.specs.Places.{counted_at}
 use Rattle.stored.proofs.Pairs.{two_counted_at-cut, two_counted_at_short, two_counted_at-whole}
 use Rattle.stored.proofs.Places.{counted_found}
 use Rattle.stored.proofs.two_counted_at.Goals as goal
 
-pub returns-in_default : goal.returns-in_default
-returns-in_default c = two_counted_at-cut _ _ (sym c.counted_at.ensures ∙ c.in_default.is)
+pub returns-in_err-first : goal.returns-in_err-first
+returns-in_err-first c = c.from_residual.ensures ∙ two_counted_at-cut _ _ (sym c.in_err-first.ensures)
 
-pub overflow_add-first : goal.overflow_add-first
-overflow_add-first c = let within = (counted_found c.args.bytes.now c.args.at (sym c.counted_at.ensures ∙ c.in-Whole.is)).within in search rules
+pub end-requires : goal.end-requires
+end-requires c = let within = (counted_found c.args.bytes.now c.args.at (sym c.in_ok-first.ensures)).within in search rules
 
-pub returns-in-Cut : goal.returns-in-Cut
-returns-in-Cut c = two_counted_at_short _ _ (sym c.counted_at.ensures ∙ c.in-Whole.is) (sym c.counted_at-2.ensures ∙ c.in-Cut.is)
+pub returns-in_err-second : goal.returns-in_err-second
+returns-in_err-second c = c.from_residual-in_err-second.ensures ∙ two_counted_at_short _ _ (sym c.in_ok-first.ensures) (sym (c.in_err-second.ensures ∙ ap (counted_at c.args.bytes.now) c.end.ensures))
 
-pub returns-in-Whole-counted_at : goal.returns-in-Whole-counted_at
-returns-in-Whole-counted_at c = two_counted_at-whole _ _ (sym c.counted_at.ensures ∙ c.in-Whole.is) (sym c.counted_at-2.ensures ∙ c.in-Whole-counted_at.is)
+pub returns : goal.returns
+returns c = two_counted_at-whole _ _ (sym c.in_ok-first.ensures) (sym (c.in_ok-second.ensures ∙ ap (counted_at c.args.bytes.now) c.end.ensures))
