@@ -5,10 +5,9 @@ use mathlib.Core.List.{List}
 use lib.ListN.{length}
 use Rattle.plan.specs.Outcomes.{Outcome, Wrote}
 use Rattle.numbers.proofs.Fits.{printed-fits, unread_no_length}
-use Rattle.answers.specs.declared.RunAnswer.{RunAnswer}
 use Rattle.answers.specs.declared.RunRefusal.{RunRefusal}
 use Rattle.answers.specs.declared.RunRefusal.TheVariants.{BadArena, NotRead, OutShort}
-use Rattle.answers.specs.Run.{HowRan, run_family, run_numbers, run_refusal_numbers}
+use Rattle.answers.specs.Run.{HowRan, RunAnswer, run_family, run_numbers, run_refusal_numbers}
 
 no_length : (x : RunRefusal) → (run_refusal_numbers x).length ≡ 0
 no_length BadArena = refl

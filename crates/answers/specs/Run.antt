@@ -1,5 +1,5 @@
 -- What RUN answers and what it leaves, for every input: document 01, "The three services".
-use Rattle.std.specs.Prelude.{ℕ, ◌/◌, ◌≤◌, ◌<◌, cond, List, length, ltb}
+use Rattle.std.specs.Prelude.{ℕ, ◌/◌, ◌≤◌, ◌<◌, cond, List, length, ltb, Result, Ok, Err}
 use Rattle.kinds.specs.Limits.{Limits, cell_numbers}
 use Rattle.numbers.specs.declared.Numbers.{Numbers}
 use Rattle.plan.specs.declared.TextFault.TheVariants.{TooLong}
@@ -13,8 +13,7 @@ use Rattle.plan.specs.Refusals.{Row}
 use Rattle.rules.specs.declared.Ending.{Ending}
 use Rattle.rules.specs.declared.Ending.TheVariants.{Done, Quota, Full}
 use Rattle.rules.specs.Running.{Ran as Run, RAN, run_plan}
-use Rattle.answers.specs.declared.RunAnswer.{RunAnswer}
-use Rattle.answers.specs.declared.RunAnswer.TheVariants.{Ran, Refused}
+use Rattle.answers.specs.declared.Ran.{Ran}
 use Rattle.answers.specs.declared.RunRefusal.{RunRefusal}
 use Rattle.answers.specs.declared.RunRefusal.TheVariants.{BadArena, NotRead, OutShort}
 
@@ -28,18 +27,28 @@ run_refusal_numbers BadArena = refused_numbers 12 0
 run_refusal_numbers (NotRead u) = unread_numbers u
 run_refusal_numbers (OutShort needed) = outshort_numbers needed
 
+-- What RUN answers. A refusal carries no steps, no cells and no length: it has none.
+abbrev pub RunAnswer : Type 0
+RunAnswer = Result Ran RunRefusal
+
+abbrev pub ran_numbers : Ran → Numbers
+ran_numbers r =
+    record { number = ending_number r.ending; steps = r.steps; cells = r.cells; length = r.length; place = 0 }
+
 abbrev pub run_numbers : RunAnswer → Numbers
-run_numbers (Ran e steps cells length) =
-    record { number = ending_number e; steps = steps; cells = cells; length = length; place = 0 }
-run_numbers (Refused r) = run_refusal_numbers r
+run_numbers (Ok r) = ran_numbers r
+run_numbers (Err r) = run_refusal_numbers r
 
 -- what RUN tells beside a text: how the run ended, and the rewrites it made
 pub record HowRan : Type 0 where
   pub ending : Ending
   pub steps : ℕ
 
+abbrev pub ran_as : HowRan → (cells length : ℕ) → Ran
+ran_as how cells length = record { ending = how.ending; steps = how.steps; cells = cells; length = length }
+
 abbrev pub run_family : Family RunRefusal HowRan RunAnswer
-run_family = record { refused = Refused; out_short = OutShort; given = λ how cells length. Ran how.ending how.steps cells length }
+run_family = record { refused = Err; out_short = OutShort; given = λ how cells length. Ok (ran_as how cells length) }
 
 unfoldable pub as_run : {L : Type 0} → Run L → Outcome RunRefusal HowRan
 as_run (RAN e steps p) = GIVES (record { ending = e; steps = steps }) (cells p) (print p)

@@ -3,14 +3,15 @@
 #![tactic(auto)]
 
 ghost use Rattle.std.specs.Prelude.{◌≡◌};
-ghost use Rattle.answers.specs.Run.{ending_number, run_numbers, run_refusal_numbers};
+ghost use Rattle.answers.specs.Run.{ending_number, ran_numbers, run_refusal_numbers};
+ghost use Rattle.answers.specs.declared.RunRefusal.TheVariants.{NotRead};
 
-use numbers::{Numbers, of_unread, out_short, refused};
+use numbers::Numbers;
 use plan::Unread;
 use rules::Ending;
 
 // Why a call of RUN is refused.
-#[derive(Clone, Copy)]
+#[derive(Clone, Copy, PartialEq, Eq)]
 pub enum RunRefusal {
     BadArena,
     NotRead(Unread),
@@ -18,16 +19,21 @@ pub enum RunRefusal {
     OutShort(u32),
 }
 
-// What RUN answers. A refusal carries no steps, no cells and no length: it has none.
-#[derive(Clone, Copy)]
-pub enum RunAnswer {
-    Ran {
-        ending: Ending,
-        steps: u32,
-        cells: u32,
-        length: u32,
-    },
-    Refused(RunRefusal),
+// How a run that was not refused went: how it ended, the rewrites that it made, and how large the plan is that is left.
+#[derive(Clone, Copy, PartialEq, Eq)]
+pub struct Ran {
+    pub ending: Ending,
+    pub steps: u32,
+    pub cells: u32,
+    pub length: u32,
+}
+
+impl From<Unread> for RunRefusal {
+    ghost from_gives = { λ u r. r ≡ NotRead u };
+
+    fn from(why: Unread) -> RunRefusal {
+        RunRefusal::NotRead(why)
+    }
 }
 
 fn ending_number(ending: Ending) -> u32
@@ -40,32 +46,28 @@ fn ending_number(ending: Ending) -> u32
     }
 }
 
-fn of_run_refusal(refusal: RunRefusal) -> Numbers
-    ensures { result ≡ run_refusal_numbers refusal }
-{
-    match refusal {
-        RunRefusal::BadArena => refused(12, 0),
-        RunRefusal::NotRead(why) => of_unread(why),
-        RunRefusal::OutShort(needed) => out_short(needed),
+impl From<RunRefusal> for Numbers {
+    ghost from_gives = { λ r n. n ≡ run_refusal_numbers r };
+
+    fn from(refusal: RunRefusal) -> Numbers {
+        match refusal {
+            RunRefusal::BadArena => Numbers::refused(12, 0),
+            RunRefusal::NotRead(why) => why.into(),
+            RunRefusal::OutShort(needed) => Numbers::out_short(needed),
+        }
     }
 }
 
-pub fn of_run(answer: RunAnswer) -> Numbers
-    ensures { result ≡ run_numbers answer }
-{
-    match answer {
-        RunAnswer::Ran {
-            ending,
-            steps,
-            cells,
-            length,
-        } => Numbers {
-            number: ending_number(ending),
-            steps,
-            cells,
-            length,
+impl From<Ran> for Numbers {
+    ghost from_gives = { λ r n. n ≡ ran_numbers r };
+
+    fn from(ran: Ran) -> Numbers {
+        Numbers {
+            number: ending_number(ran.ending),
+            steps: ran.steps,
+            cells: ran.cells,
+            length: ran.length,
             place: 0,
-        },
-        RunAnswer::Refused(refusal) => of_run_refusal(refusal),
+        }
     }
 }

@@ -8,7 +8,7 @@ ghost use Rattle.rules.specs.Leftmost.{takes};
 use plan::Operator;
 
 // How an unrefused run ends.
-#[derive(Clone, Copy)]
+#[derive(Clone, Copy, PartialEq, Eq)]
 pub enum Ending {
     Done,
     Quota,
@@ -20,9 +20,7 @@ pub fn takes(operator: Operator) -> u32
     ensures { result ≡ takes operator }
 {
     match operator {
-        Operator::A => 2,
-        Operator::B => 2,
-        Operator::C => 1,
-        Operator::D => 1,
+        Operator::A | Operator::B => 2,
+        Operator::C | Operator::D => 1,
     }
 }
