@@ -15,9 +15,8 @@ use Rattle.plan.specs.Reading.{Mark, blank, an_annotation, class, mark}
 use Rattle.plan.proofs.Classes.{class_brace, class_byte, clash}
 use Rattle.kinds.proofs.Tests.{false_is_not_true}
 use Rattle.plan.proofs.Tokens.{annotation-of}
-use Rattle.items.specs.Walk.{MarkAt, MarkFrom, PieceFrom, ShowsAhead, TokenFrom, Walked}
-use Rattle.items.specs.declared.NextPiece.{NextPiece}
-use Rattle.items.specs.declared.NextPiece.TheVariants.{End, Piece as AtPiece}
+use Rattle.items.specs.Walk.{Begins, MarkAt, MarkFrom, PieceFrom, ShowsAhead, TokenFrom}
+use Rattle.items.specs.declared.Placed.{Placed}
 
 -- a `{` begins an annotation, whose text ends before the mark's last byte
 opened : {text : List ℕ} {at : ℕ} {m : List ℕ} → get_or text at 0 ≡ open_brace → MarkAt text at m
@@ -110,9 +109,8 @@ module _ {text : List ℕ} {from at : ℕ} (p : WalkSoFar text from at) (inside 
       mark_passed = record { began = p.began; low = omega (arith, p.low, mark_less); still = λ ps s. behind (p.still ps s) }
 
 -- the piece behind the marks is the walk's
-later : (text : List ℕ) (from at : ℕ) → from ≤ at → (r : NextPiece) (ps : List (PlanPiece ℕ)) → Walked text at r ps → Walked text from r ps
-later text from at low End ps w = w
-later text from at low (AtPiece k place rest) ps w =
+later : (text : List ℕ) (from at : ℕ) → from ≤ at → (k : Placed) (ps : List (PlanPiece ℕ)) → Begins text at k ps → Begins text from k ps
+later text from at low k ps w =
     record {
       first = w.first;
       later = w.later;
@@ -129,15 +127,15 @@ pub piece_from : {text : List ℕ} {from at : ℕ} → WalkSoFar text from at �
     → s ≡ false → PieceFrom text at
 piece_from p inside e h = record { ahead = ahead p; inside = inside; no_mark = sym e ∙ h }
 
-pub pass_piece : {text : List ℕ} {from at : ℕ} → WalkSoFar text from at → (r : NextPiece)
-    → ((ps : List (PlanPiece ℕ)) → Shows token_limit at (drop at text) ps → Walked text at r ps)
-    → (ps : List (PlanPiece ℕ)) → Shows token_limit from (drop from text) ps → Walked text from r ps
-pass_piece {text} {from} {at} p r w ps s = later text from at p.low r ps (w ps (p.still ps s))
+pub pass_piece : {text : List ℕ} {from at : ℕ} → WalkSoFar text from at → (k : Placed)
+    → ((ps : List (PlanPiece ℕ)) → Shows token_limit at (drop at text) ps → Begins text at k ps)
+    → (ps : List (PlanPiece ℕ)) → Shows token_limit from (drop from text) ps → Begins text from k ps
+pass_piece {text} {from} {at} p k w ps s = later text from at p.low k ps (w ps (p.still ps s))
 
 none_left : {at : ℕ} {ps : List (PlanPiece ℕ)} → Shows token_limit at [] ps → ps ≡ []
 none_left nothing = refl
 
 -- behind the last byte
 pub pass_end : {text : List ℕ} {from at : ℕ} → WalkSoFar text from at → length text ≤ at → (ps : List (PlanPiece ℕ)) → Shows token_limit from (drop from text) ps
-    → Walked text from End ps
+    → ps ≡ []
 pass_end {text} {from} {at} p past ps s = none_left (subst (λ us. Shows token_limit at us ps) (drop_of_length-le text past) (p.still ps s))

@@ -1,5 +1,5 @@
--- What the class of a byte tells, where no mark begins: of the pieces that the text shows from there on, and of each answer of the walk.
-use Prim.Native.Nat.{ℕ, ◌+◌, ◌-◌, ◌≤◌}
+-- What the class of a byte tells, where no mark begins: of the pieces that the text shows from there on, and of the piece that begins there.
+use Prim.Native.Nat.{ℕ, ◌+◌, ◌≤◌}
 use mathlib.Core.Path.{◌≡◌, refl, ap, sym, ◌∙◌, subst}
 use mathlib.Core.Bool.{false}
 use mathlib.Core.List.{List, [], ◌∷◌, ◌++◌, append_assoc}
@@ -7,8 +7,6 @@ use native.Mathlib.Omega.{arith}
 use lib.ListN.{length, get_or, take, drop, length-append, length-drop}
 use lib.Seq.{drop_at, drop-drop, take_at}
 use Rattle.kinds.specs.Limits.{token_limit}
-use Rattle.kinds.specs.declared.Place.{Place}
-use Rattle.kinds.specs.declared.Token.{Token as TextToken}
 use Rattle.plan.specs.Plan.{close_brace, open_brace}
 use Rattle.plan.specs.Pieces.{Found, Piece as PlanPiece, OP, TOKEN, BEGIN, END, Shows, a_mark, an_operator, a_token, opens, closes, piece_print}
 use Rattle.plan.specs.Reading.{Byte, class, mark}
@@ -22,10 +20,9 @@ use Rattle.plan.proofs.Tokens.{allowed-parts}
 use Rattle.text.specs.TokenEnds.{TokenEnds}
 use Rattle.pieces.specs.Written.{Is, is_operator, is_token, is_open, is_close, TokenAt}
 use Rattle.pieces.specs.declared.Piece.{Piece as CodePiece}
-use Rattle.pieces.specs.declared.Piece.TheVariants.{Operator as an_op, Token, Open, Close}
-use Rattle.items.specs.Walk.{LabelledAt, Passed, PieceFrom, Walked, TokenFrom, one_byte, one_token}
-use Rattle.items.specs.declared.NextPiece.{NextPiece}
-use Rattle.items.specs.declared.NextPiece.TheVariants.{Piece as AtPiece}
+use Rattle.pieces.specs.declared.Piece.TheVariants.{Operator as an_op, Open, Close}
+use Rattle.items.specs.Walk.{Begins, LabelledAt, Passed, PieceFrom, TokenFrom, at_place, one_token}
+use Rattle.items.specs.declared.Placed.{Placed}
 use Rattle.items.proofs.Passing.{byte_first}
 
 -- the first piece is x, of one byte
@@ -49,9 +46,6 @@ told (a_token t c n s) no_mark = rw c (t, record { rest = _; splits = refl; fine
 told (opens c s) no_mark = rw c (_, refl, s)
 told (closes c s) no_mark = rw c (_, refl, s)
 
-pub byte_told : (j : CodePiece) {at : ℕ} {p : Place} → p.0 ≡ at → AtPiece j p (record { at = at + 1 }) ≡ one_byte j at
-byte_told j {at} e = ap (λ n. AtPiece j (record { 0 = n }) (record { at = at + 1 })) e
-
 -- the place of the token's end, as `token_end` finds it
 pub token_ends : {text : List ℕ} {at fin : ℕ} → TokenFrom text at → ((t : List ℕ) → Found token_limit (drop (at + 1) text) t → fin ≡ at + 1 + length t)
     → TokenEnds text at fin
@@ -64,15 +58,6 @@ token_ends {text} {at} f ends =
       few = omega (arith, there, fine.1);
       short = f.short;
     }
-
-pub token_told : {at fin : ℕ} (t : List ℕ) {p : Place} {k : TextToken} → fin ≡ at + 1 + length t → p.0 ≡ at → k.at ≡ p → k.len ≡ fin + 1 - at
-    → AtPiece (Token k) p (record { at = fin + 1 }) ≡ one_token at t
-token_told {at} {fin} t {p} {k} ends here there long =
-    let len : k.len ≡ length t + 2 = omega arith in
-    let behind : fin + 1 ≡ at + (length t + 2) = omega arith in
-    let made : ℕ → ℕ → ℕ → NextPiece = λ a l b. AtPiece (Token (record { at = record { 0 = a }; len = l })) (record { 0 = a }) (record { at = b }) in
-    subst (λ q. AtPiece (Token k) q (record { at = fin + 1 }) ≡ one_token at t) there
-    (ap (λ a. made a k.len (fin + 1)) (ap (λ (q : Place). q.0) there ∙ here) ∙ ap (λ l. made at l (fin + 1)) len ∙ ap (made at (length t + 2)) behind)
 
 module _ {text : List ℕ} {at : ℕ} (p : PieceFrom text at) where
   abbrev b : ℕ
@@ -89,11 +74,11 @@ module _ {text : List ℕ} {at : ℕ} (p : PieceFrom text at) where
     byte : (c : Class) → k ≡ c → Byte c b
     byte c h = subst (λ x. Byte x b) (sym e ∙ h) (class_byte b)
 
-    pub pass_blank : (r : NextPiece) → k ≡ BLANK → (ps : List (PlanPiece ℕ)) → Shows token_limit at (drop at text) ps → Walked text at r ps
-    pass_blank r h ps s = absurd (here BLANK h s)
+    pub no_blank : k ≡ BLANK → ⊥
+    no_blank h = here BLANK h p.ahead.shows
 
-    pub pass_bad : (r : NextPiece) → k ≡ BAD → (ps : List (PlanPiece ℕ)) → Shows token_limit at (drop at text) ps → Walked text at r ps
-    pass_bad r h ps s = absurd (here BAD h s)
+    pub no_bad : k ≡ BAD → ⊥
+    no_bad h = here BAD h p.ahead.shows
 
     -- a piece of one byte
     one_passed : (j : CodePiece) (x : PlanPiece ℕ) {ps : List (PlanPiece ℕ)} → Is text j x → LabelledAt at x → piece_print x ≡ b ∷ []
@@ -111,18 +96,18 @@ module _ {text : List ℕ} {at : ℕ} (p : PieceFrom text at) where
           within = omega (arith, p.inside);
         }
 
-    module _ (r : NextPiece) where
-      pub pass_operator : (o : Operator) → k ≡ OPERATOR o → r ≡ one_byte (an_op o) at
-          → (ps : List (PlanPiece ℕ)) → Shows token_limit at (drop at text) ps → Walked text at r ps
+    module _ (r : Placed) where
+      pub pass_operator : (o : Operator) → k ≡ OPERATOR o → r ≡ at_place (an_op o) at
+          → (ps : List (PlanPiece ℕ)) → Shows token_limit at (drop at text) ps → Begins text at r ps
       unfolding piece_print
       pass_operator o h is ps s =
           rw is (one_passed (an_op o) (OP at o) is_operator refl (ap (◌∷ []) (sym (byte (OPERATOR o) h))) (here (OPERATOR o) h s))
 
-      pub pass_open : k ≡ OPEN → r ≡ one_byte Open at → (ps : List (PlanPiece ℕ)) → Shows token_limit at (drop at text) ps → Walked text at r ps
+      pub pass_open : k ≡ OPEN → r ≡ at_place Open at → (ps : List (PlanPiece ℕ)) → Shows token_limit at (drop at text) ps → Begins text at r ps
       unfolding piece_print
       pass_open h is ps s = rw is (one_passed Open (BEGIN at) is_open refl (ap (◌∷ []) (sym (byte OPEN h))) (here OPEN h s))
 
-      pub pass_close : k ≡ CLOSE → r ≡ one_byte Close at → (ps : List (PlanPiece ℕ)) → Shows token_limit at (drop at text) ps → Walked text at r ps
+      pub pass_close : k ≡ CLOSE → r ≡ at_place Close at → (ps : List (PlanPiece ℕ)) → Shows token_limit at (drop at text) ps → Begins text at r ps
       unfolding piece_print
       pass_close h is ps s = rw is (one_passed Close END is_close tt (ap (◌∷ []) (sym (byte CLOSE h))) (here CLOSE h s))
 
@@ -149,8 +134,8 @@ module _ {text : List ℕ} {at : ℕ} (p : PieceFrom text at) where
       token_there : TokenAt text at (length t + 2) t
       token_there = (inside_text, ap (take (length t + 2)) parts ∙ take_at whole f.rest (length t + 2) long)
 
-    pub pass_token : (r : NextPiece) → k ≡ BRACE → ((t : List ℕ) → Found token_limit (drop (at + 1) text) t → r ≡ one_token at t)
-        → (ps : List (PlanPiece ℕ)) → Shows token_limit at (drop at text) ps → Walked text at r ps
+    pub pass_token : (r : Placed) → k ≡ BRACE → ((t : List ℕ) → Found token_limit (drop (at + 1) text) t → r ≡ one_token at t)
+        → (ps : List (PlanPiece ℕ)) → Shows token_limit at (drop at text) ps → Begins text at r ps
     unfolding piece_print
     pass_token r h is ps s =
         let (t, f, later, first, shows) = here BRACE h s in

@@ -1,37 +1,44 @@
--- What every loop over a text's pieces needs of a step of the walk, said once: the piece that a match on the answer found, the pieces that
--- come behind it, and that less of the text is left.
-use Prim.Native.Nat.{ℕ, ◌-◌, ◌<◌}
-use mathlib.Core.Path.{◌≡◌, subst}
+-- What every loop over a text's pieces needs of the walk, said once: what an invariant keeps of it, the piece that the walk gave, with the
+-- pieces that come behind it, and that none come where it is over.
+use Prim.Native.Nat.{ℕ}
+use mathlib.Core.Path.{◌≡◌, ◌∙◌}
 use mathlib.Core.List.{List, []}
-use native.Mathlib.Omega.{arith}
-use lib.ListN.{drop, length}
+use lib.ListN.{drop}
 use Rattle.kinds.specs.Limits.{token_limit}
-use Rattle.kinds.specs.declared.Place.{Place}
 use Rattle.plan.specs.Pieces.{Piece as PlanPiece, Shows}
 use Rattle.pieces.specs.declared.Piece.{Piece as CodePiece}
-use Rattle.items.specs.Walk.{Passed, ShowsAhead, Walked}
-use Rattle.items.specs.declared.Cursor.{Cursor}
-use Rattle.items.specs.declared.NextPiece.{NextPiece}
-use Rattle.items.specs.declared.NextPiece.TheVariants.{End, Piece as NextIs}
+use Rattle.items.specs.Walk.{Passed, ShowsAhead}
+use Rattle.items.specs.declared.Walk.{Walk}
 
--- what the walk answered, r, for whatever pieces come
-module _ (text : List ℕ) {at : ℕ} {r : NextPiece} (walked : (ps : List (PlanPiece ℕ)) → Shows token_limit at (drop at text) ps → Walked text at r ps) where
-  pub walked_over : r ≡ End → (ps : List (PlanPiece ℕ)) → Shows token_limit at (drop at text) ps → ps ≡ []
-  walked_over e ps s = subst (λ z. Walked text at z ps) e (walked ps s)
+-- behind a piece come the later ones
+abbrev pub passed_ahead : {text : List ℕ} {at : ℕ} {k : CodePiece} {place rest : ℕ} {ps : List (PlanPiece ℕ)} → ShowsAhead text at
+    → Passed text at k place rest ps → ShowsAhead text rest
+passed_ahead ahead passed = record { short = ahead.short; come = passed.later; shows = passed.shows }
 
-  pub walked_piece : {k : CodePiece} {place : Place} {rest : Cursor} → r ≡ NextIs k place rest → (ps : List (PlanPiece ℕ)) → Shows token_limit at (drop at text) ps
-      → Passed text at k place.0 rest.at ps
-  walked_piece e ps s = subst (λ z. Walked text at z ps) e (walked ps s)
+-- what a loop over the walk keeps of it: the walk w can go on, it goes over the text, and what the loop keeps itself
+pub record OnWalk (text : List ℕ) (w : Walk) (Kept : Type 0) : Type 0 where
+  pub can_next : ShowsAhead w.text.now w.at
+  pub same : w.text.now ≡ text
+  pub kept : Kept
 
-module _ {text : List ℕ} {at : ℕ} {k : CodePiece} {place rest : ℕ} where
-  -- the piece, of the pieces that are known to come
-  pub passed_here : (ahead : ShowsAhead text at) → ((ps : List (PlanPiece ℕ)) → Shows token_limit at (drop at text) ps → Passed text at k place rest ps)
-      → Passed text at k place rest ahead.come
-  passed_here ahead passed = passed ahead.come ahead.shows
+pub on_walk : {text : List ℕ} (w : Walk) {Kept : Type 0} → w.text.now ≡ text → ShowsAhead text w.at → Kept → OnWalk text w Kept
+on_walk w same ahead kept = record { can_next = rw same ahead; same = same; kept = kept }
 
-  module _ {ps : List (PlanPiece ℕ)} where
-    abbrev pub passed_ahead : ShowsAhead text at → Passed text at k place rest ps → ShowsAhead text rest
-    passed_ahead ahead passed = record { short = ahead.short; come = passed.later; shows = passed.shows }
+-- where the loop begins
+pub walk_begins : {text : List ℕ} {w over : Walk} → w ≡ over → (over.text.now ≡ text) × (over.at ≡ 0) → (w.text.now ≡ text) × (w.at ≡ 0)
+walk_begins e over = rw e over
 
-    pub passed_less : Passed text at k place rest ps → length text - rest < length text - at
-    passed_less passed = omega (arith, passed.ahead, passed.within)
+module _ {text : List ℕ} {w : Walk} {Kept : Type 0} (on : OnWalk text w Kept) where
+  -- the walk is over: no pieces come
+  pub walk_over : (ahead : ShowsAhead text w.at) → ((ps : List (PlanPiece ℕ)) → Shows token_limit w.at (drop w.at w.text.now) ps → ps ≡ []) → ahead.come ≡ []
+  walk_over ahead none = none ahead.come (rw on.same ahead.shows)
+
+  module _ {text' : List ℕ} {k : CodePiece} {place rest : ℕ}
+      (gives : (text' ≡ w.text.now) × ((ps : List (PlanPiece ℕ)) → Shows token_limit w.at (drop w.at w.text.now) ps → Passed w.text.now w.at k place rest ps)) where
+    -- the walk still goes over the text
+    pub walk_same : text' ≡ text
+    walk_same = gives.0 ∙ on.same
+
+    -- the piece that the walk gave is the first of the pieces that are known to come
+    pub walk_piece : (ahead : ShowsAhead text w.at) → Passed text w.at k place rest ahead.come
+    walk_piece ahead = rw on.same at (gives.1 ahead.come (rw on.same ahead.shows))

@@ -1,15 +1,14 @@
--- What a step of the walk says. The text shows pieces from the cursor on. The step tells the first of them with its place, and where
--- the others begin; or that there is none.
-use Rattle.std.specs.Prelude.{ℕ, ◌+◌, ◌<◌, ◌≤◌, ◌≡◌, false, List, [], ◌∷◌, ◌++◌, length, get_or, drop}
+-- What a step of the walk says. The text shows pieces from where the walk stands. The step tells the first of them with its place, and
+-- the others begin behind it; or that there is none.
+use Rattle.std.specs.Prelude.{Option, Some, None, ℕ, ◌+◌, ◌<◌, ◌≤◌, ◌≡◌, false, List, [], ◌∷◌, ◌++◌, length, get_or, drop}
 use Rattle.kinds.specs.Limits.{text_limit, token_limit}
 use Rattle.plan.specs.Plan.{Plan, print}
 use Rattle.plan.specs.Pieces.{Found, Piece as PlanPiece, OP, TOKEN, BEGIN, END, Shows, piece_print, pieces}
 use Rattle.plan.specs.Reading.{Mark, class, mark, place}
-use Rattle.pieces.specs.Written.{Is}
+use Rattle.pieces.specs.Written.{Is, piece_length}
 use Rattle.pieces.specs.declared.Piece.{Piece as CodePiece}
 use Rattle.pieces.specs.declared.Piece.TheVariants.{Token}
-use Rattle.items.specs.declared.NextPiece.{NextPiece}
-use Rattle.items.specs.declared.NextPiece.TheVariants.{End, Piece}
+use Rattle.items.specs.declared.Placed.{Placed}
 
 -- from the place on, the text shows pieces
 pub record ShowsAhead (text : List ℕ) (at : ℕ) : Type 0 where
@@ -36,16 +35,31 @@ pub record Passed (text : List ℕ) (from : ℕ) (k : CodePiece) (at rest : ℕ)
   pub ahead : from < rest
   pub within : rest ≤ length text
 
-abbrev pub Walked : (text : List ℕ) → (from : ℕ) → NextPiece → List (PlanPiece ℕ) → Type 0
-Walked text from End ps = ps ≡ []
-Walked text from (Piece k at rest) ps = Passed text from k at.0 rest.at ps
+-- the place behind a piece
+abbrev pub behind : Placed → ℕ
+behind k = k.at.0 + piece_length k.piece
 
-abbrev pub one_byte : CodePiece → ℕ → NextPiece
-one_byte k at = Piece k (place at) (record { at = at + 1 })
+-- the piece is the first of the pieces ps, which the text shows from the place `from` on
+abbrev pub Begins : (text : List ℕ) → (from : ℕ) → Placed → List (PlanPiece ℕ) → Type 0
+Begins text from k ps = Passed text from k.piece k.at.0 (behind k) ps
+
+abbrev pub Walked : (text : List ℕ) → (from : ℕ) → Option Placed → List (PlanPiece ℕ) → Type 0
+Walked text from None ps = ps ≡ []
+Walked text from (Some k) ps = Begins text from k ps
+
+-- what the walk gives, where it stands before and behind it
+abbrev pub Gives : (text : List ℕ) → (from : ℕ) → Option Placed → (text' : List ℕ) → (rest : ℕ) → Type 0
+Gives text from None text' rest = (ps : List (PlanPiece ℕ)) → Shows token_limit from (drop from text) ps → ps ≡ []
+Gives text from (Some k) text' rest =
+    (text' ≡ text) × ((ps : List (PlanPiece ℕ)) → Shows token_limit from (drop from text) ps → Passed text from k.piece k.at.0 rest ps)
+
+-- the piece at a place
+abbrev pub at_place : CodePiece → ℕ → Placed
+at_place k at = record { piece = k; at = place at }
 
 -- the token with the text t, whose `{` stands at the place
-abbrev pub one_token : ℕ → List ℕ → NextPiece
-one_token at t = Piece (Token (record { at = place at; len = length t + 2 })) (place at) (record { at = at + (length t + 2) })
+abbrev pub one_token : ℕ → List ℕ → Placed
+one_token at t = at_place (Token (record { at = place at; len = length t + 2 })) at
 
 pub record TokenFrom (text : List ℕ) (at : ℕ) : Type 0 where
   pub short : length text ≤ text_limit

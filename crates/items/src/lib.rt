@@ -3,10 +3,11 @@
 // for no fault, since there is none.
 #![tactic(auto)]
 
-ghost use Rattle.std.specs.Prelude.{◌≡◌, ℕ, suc, ◌+◌, ◌<◌, List, length, drop};
+ghost use Rattle.std.specs.Prelude.{◌≡◌, ℕ, suc, ◌+◌, ◌-◌, ◌<◌, ◌≤◌, List, length, drop};
 ghost use Rattle.kinds.specs.Limits.{text_limit, token_limit};
 ghost use Rattle.plan.specs.Pieces.{Found, Piece as PlanPiece, Shows};
-ghost use Rattle.items.specs.Walk.{MarkAt, MarkFrom, PieceFrom, ShowsAhead, TokenFrom, Walked, one_byte, one_token};
+ghost use Rattle.std.specs.Iterator.{at_most};
+ghost use Rattle.items.specs.Walk.{Begins, Gives, MarkAt, MarkFrom, PieceFrom, ShowsAhead, TokenFrom, Walked, at_place, one_token};
 
 use kinds::{Place, Token};
 use pieces::Piece;
@@ -17,21 +18,31 @@ mod tidy;
 
 pub use tidy::put_tidied;
 
-// Where a walk stands in the text.
+// A piece of the text, with the place of its first byte.
 #[derive(Clone, Copy)]
-pub struct Cursor {
-    pub at: usize,
+pub struct Placed {
+    pub piece: Piece,
+    pub at: Place,
 }
 
-// The next piece with the place of its first byte, and the walk behind it.
+impl Placed {
+    // The piece that begins at a byte of the text.
+    fn new(piece: Piece, at: usize) -> Placed
+        requires { at ≤ text_limit }
+        ensures { result ≡ at_place piece at }
+    {
+        Placed {
+            piece,
+            at: Place::new(at),
+        }
+    }
+}
+
+// The walk over an accepted text, piece by piece: the text, and where the walk stands in it.
 #[derive(Clone, Copy)]
-pub enum NextPiece {
-    End,
-    Piece {
-        piece: Piece,
-        at: Place,
-        rest: Cursor,
-    },
+pub struct Walk<'a> {
+    pub text: &'a [u8],
+    pub at: usize,
 }
 
 // The place of the `}` that ends a token. `from` is the place right behind the token's `{`.
@@ -46,29 +57,13 @@ fn token_end(text: &[u8], from: usize) -> usize
     at
 }
 
-fn token_piece(text: &[u8], at: usize) -> NextPiece
+fn token_piece(text: &[u8], at: usize) -> Placed
     requires { TokenFrom text.now at }
     ensures { (t : List ℕ) → Found token_limit (drop (at + 1) text.now) t → result ≡ one_token at t }
 {
     let end = token_end(text, at + 1);
-    let place = Place::new(at);
-    NextPiece::Piece {
-        piece: Piece::Token(Token::new(place, end + 1 - at)),
-        at: place,
-        rest: Cursor { at: end + 1 },
-    }
-}
-
-// A piece of one byte.
-fn byte_piece(piece: Piece, at: usize) -> NextPiece
-    requires { at < text_limit }
-    ensures { result ≡ one_byte piece at }
-{
-    NextPiece::Piece {
-        piece,
-        at: Place::new(at),
-        rest: Cursor { at: at + 1 },
-    }
+    let token = Token::new(Place::new(at), end + 1 - at);
+    Placed::new(Piece::Token(token), at)
 }
 
 // The place behind a mark: an annotation ends as every token does.
@@ -83,33 +78,57 @@ fn mark_end(text: &[u8], at: usize) -> usize
 }
 
 // The piece that begins at a place of an accepted text, where no mark begins.
-fn piece_at(text: &[u8], at: usize) -> NextPiece
+fn piece_at(text: &[u8], at: usize) -> Placed
     requires { PieceFrom text.now at }
-    ensures { (ps : List (PlanPiece ℕ)) → Shows token_limit at (drop at text.now) ps → Walked text.now at result ps }
+    ensures { (ps : List (PlanPiece ℕ)) → Shows token_limit at (drop at text.now) ps → Begins text.now at result ps }
 {
     match class_of(text[at]) {
-        Class::Operator(operator) => byte_piece(Piece::Operator(operator), at),
-        Class::Open => byte_piece(Piece::Open, at),
-        Class::Close => byte_piece(Piece::Close, at),
+        Class::Operator(operator) => Placed::new(Piece::Operator(operator), at),
+        Class::Open => Placed::new(Piece::Open, at),
+        Class::Close => Placed::new(Piece::Close, at),
         Class::Brace => token_piece(text, at),
         // A blank is a mark, and an accepted text has no refused byte.
-        Class::Blank => NextPiece::End,
-        Class::Bad => NextPiece::End,
+        Class::Blank | Class::Bad => unreachable!(),
     }
 }
 
-// The next piece of an accepted text, from the cursor on, or its end.
-pub fn next(text: &[u8], cursor: Cursor) -> NextPiece
-    requires { ShowsAhead text.now cursor.at }
-    ensures { (ps : List (PlanPiece ℕ)) → Shows token_limit cursor.at (drop cursor.at text.now) ps → Walked text.now cursor.at result ps }
+// The next piece of an accepted text, from a place on.
+fn next_piece(text: &[u8], from: usize) -> Option<Placed>
+    requires { ShowsAhead text.now from }
+    ensures { (ps : List (PlanPiece ℕ)) → Shows token_limit from (drop from text.now) ps → Walked text.now from result ps }
 {
-    let mut at = cursor.at;
+    let mut at = from;
     while at < text.len() {
         if is_mark(text, at) {
             at = mark_end(text, at);
         } else {
-            return piece_at(text, at);
+            return Some(piece_at(text, at));
         }
     }
-    NextPiece::End
+    None
+}
+
+impl<'a> Walk<'a> {
+    // The walk from the first byte on.
+    pub fn over(text: &'a [u8]) -> Walk<'a>
+        ensures { (result.text.now ≡ text.now) × (result.at ≡ 0) }
+    {
+        Walk { text, at: 0 }
+    }
+}
+
+impl<'a> Iterator for Walk<'a> {
+    type Item = Placed;
+
+    ghost can_next = { λ s. ShowsAhead s.text.now s.at };
+
+    ghost next_gives = { λ s r t. Gives s.text.now s.at r t.text.now t.at };
+
+    ghost remaining = { λ s. at_most (length s.text.now - s.at) };
+
+    fn next(&mut self) -> Option<Placed> {
+        let next = next_piece(self.text, self.at)?;
+        self.at = next.at.0 as usize + next.piece.length() as usize;
+        Some(next)
+    }
 }

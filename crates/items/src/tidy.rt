@@ -6,7 +6,7 @@ ghost use Rattle.plan.specs.Pieces.{Shows, pieces};
 ghost use Rattle.kinds.specs.Written.{put_at};
 ghost use Rattle.items.specs.Walk.{Tidyable};
 
-use crate::{Cursor, NextPiece, next};
+use crate::{Placed, Walk};
 use pieces::put_piece;
 
 // Writes the pieces of an accepted text to the output, from the place `from` on.
@@ -14,16 +14,9 @@ pub fn put_tidied(text: &[u8], out: &mut [u8], from: usize)
     requires { Tidyable text.now out.old from }
     ensures { (p : Plan ℕ) → Shows token_limit 0 text.now (pieces p) → out.new ≡ put_at out.old from (print p) }
 {
-    let mut cursor = Cursor { at: 0 };
     let mut put = from;
-    loop {
-        match next(text, cursor) {
-            NextPiece::End => return,
-            NextPiece::Piece { piece, at, rest } => {
-                put_piece(text, piece, out, put);
-                put += piece.length() as usize;
-                cursor = rest;
-            }
-        }
+    for Placed { piece, at } in Walk::over(text) {
+        put_piece(text, piece, out, put);
+        put += piece.length() as usize;
     }
 }

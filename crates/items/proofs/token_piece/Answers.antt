@@ -6,5 +6,5 @@ use Rattle.items.proofs.token_piece.Goals as goal
 pub overflow_add-end : goal.overflow_add-end
 overflow_add-end c = omega (arith, token_ends c.requires c.token_end-end.ensures)
 
-pub new-requires : goal.new-requires
-new-requires c = omega (arith, token_ends c.requires c.token_end-end.ensures)
+pub new-token-requires : goal.new-token-requires
+new-token-requires c = omega (arith, token_ends c.requires c.token_end-end.ensures)

@@ -1,5 +1,5 @@
 use Rattle.items.proofs.Passing.{mark_from, mark_less, mark_passed, pass_end}
-use Rattle.items.proofs.next.Goals as goal
+use Rattle.items.proofs.next_piece.Goals as goal
 
 pub mark_end-at-requires : goal.mark_end-at-requires
 mark_end-at-requires c = mark_from c.loop-at.invariant c.loop-at-test.true c.is_mark.ensures c.if-is_mark.true

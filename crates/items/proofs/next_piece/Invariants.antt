@@ -1,7 +1,7 @@
--- `next`: behind the marks the text shows the same pieces, and the byte there begins the first of them.
+-- `next_piece`: behind the marks the text shows the same pieces, and the byte there begins the first of them.
 use Rattle.std.proofs.Common.{◌-◌, length}
 use Rattle.items.proofs.Passing.{WalkSoFar}
-use Rattle.items.proofs.next.Given as goal
+use Rattle.items.proofs.next_piece.Given as goal
 
 abbrev pub invariant-loop-at : goal.invariant-loop-at
 invariant-loop-at l = WalkSoFar l.text l.initial.at l.at
