@@ -2,6 +2,9 @@
 // call whether every number of the memory is 0, and whether every byte past the printed text is as it was.
 #![tactic(auto)]
 
+ghost use Rattle.std.specs.Prelude.{◌≡◌, ◌==◌, length, replicate};
+ghost use Rattle.std.specs.List.{list_all};
+
 // What a memory is filled with. Any number but 0 would do.
 const NUMBER: u32 = 0xABAB_ABAB;
 
@@ -9,42 +12,28 @@ const NUMBER: u32 = 0xABAB_ABAB;
 // is never taken for one that was written.
 const BYTE: u8 = 255;
 
-pub fn fill_memory(memory: &mut [u32]) {
-    let mut at = 0;
-    while at < memory.len() {
-        memory[at] = NUMBER;
-        at += 1;
-    }
+pub fn fill_memory(memory: &mut [u32])
+    ensures { memory.new ≡ replicate (length memory.old) NUMBER }
+{
+    memory.fill(NUMBER);
 }
 
-pub fn fill_output(output: &mut [u8]) {
-    let mut at = 0;
-    while at < output.len() {
-        output[at] = BYTE;
-        at += 1;
-    }
+pub fn fill_output(output: &mut [u8])
+    ensures { output.new ≡ replicate (length output.old) BYTE }
+{
+    output.fill(BYTE);
 }
 
 // Whether every number is 0.
-pub fn all_zero(memory: &[u32]) -> bool {
-    let mut at = 0;
-    while at < memory.len() {
-        if memory[at] != 0 {
-            return false;
-        }
-        at += 1;
-    }
-    true
+pub fn all_zero(memory: &[u32]) -> bool
+    ensures { result ≡ list_all (λ number. number == 0) memory.now }
+{
+    memory.iter().all(|number| *number == 0)
 }
 
-// Whether every byte from a place on is what the output was filled with.
-pub fn untouched(output: &[u8], from: usize) -> bool {
-    let mut at = from;
-    while at < output.len() {
-        if output[at] != BYTE {
-            return false;
-        }
-        at += 1;
-    }
-    true
+// Whether every byte is what an output was filled with.
+pub fn untouched(rest: &[u8]) -> bool
+    ensures { result ≡ list_all (λ byte. byte == BYTE) rest.now }
+{
+    rest.iter().all(|byte| *byte == BYTE)
 }

@@ -2,9 +2,10 @@
 // standard error.
 #![tactic(auto)]
 
-ghost use Rattle.std.specs.Prelude.{◌≤◌, length};
+ghost use Rattle.std.specs.Prelude.{◌≡◌, ◌≤◌, length, take, drop};
 
 use numbers::Numbers;
+use std::fmt::Display;
 use std::io;
 
 // What could not be written is said on standard error.
@@ -18,27 +19,35 @@ pub fn say(rt: &(impl Print + Eprint), bytes: &[u8]) {
     warn_unless(rt, rt.write_all(bytes));
 }
 
-pub fn say_count(rt: &(impl Print + Eprint), count: u64) {
+pub fn say_count(rt: &(impl Print + Eprint), count: impl Display + Drop) {
     warn_unless(rt, print!(rt; "{count}"));
-}
-
-fn tell_next(rt: &impl Print, number: u32) -> io::Result<()> {
-    print!(rt; " {number}")
 }
 
 // Number, steps, cells, length and place in decimal, with one SP between; an error where not all could be written.
 pub fn tell_five(rt: &impl Print, numbers: Numbers) -> io::Result<()> {
-    rt.print(numbers.number)?;
-    tell_next(rt, numbers.steps)?;
-    tell_next(rt, numbers.cells)?;
-    tell_next(rt, numbers.length)?;
-    tell_next(rt, numbers.place)
+    let Numbers {
+        number,
+        steps,
+        cells,
+        length,
+        place,
+    } = numbers;
+    print!(rt; "{number} {steps} {cells} {length} {place}")
 }
 
-// The printed text, which the output holds first; an error where not all of it could be written.
+// The printed text, which the output holds first, and what stands behind it.
+pub fn printed_and_rest(numbers: Numbers, output: &[u8]) -> (&[u8], &[u8])
+    requires { numbers.length ≤ length output.now }
+    ensures printed { result.0.now ≡ take numbers.length output.now }
+    ensures rest { result.1.now ≡ drop numbers.length output.now }
+{
+    output.split_at(numbers.length as usize)
+}
+
+// The printed text; an error where not all of it could be written.
 pub fn tell_printed(rt: &impl Print, numbers: Numbers, output: &[u8]) -> io::Result<()>
     requires { numbers.length ≤ length output.now }
 {
-    let length = numbers.length as usize;
-    rt.write_all(&output[0..length])
+    let (printed, _) = printed_and_rest(numbers, output);
+    rt.write_all(printed)
 }

@@ -1,6 +1,0 @@
--- `all_zero`: the loop comes nearer to the end with each turn.
-use Rattle.std.proofs.Common.{length, ◌-◌}
-use Rattle.lending.proofs.all_zero.Given as goal
-
-abbrev pub decreases-loop-at : goal.decreases-loop-at
-decreases-loop-at l = length l.memory - l.at
