@@ -14,7 +14,7 @@ mod numbering;
 
 pub use numbering::{class_of_number, letter, operator_number, operator_of};
 
-#[derive(Clone, Copy)]
+#[derive(Clone, Copy, PartialEq, Eq)]
 pub enum Piece {
     Operator(Operator),
     Token(Token),
@@ -28,10 +28,8 @@ impl Piece {
         ensures { result ≡ piece_length self }
     {
         match self {
-            Piece::Operator(_) => 1,
             Piece::Token(token) => token.len,
-            Piece::Open => 1,
-            Piece::Close => 1,
+            Piece::Operator(_) | Piece::Open | Piece::Close => 1,
         }
     }
 }
@@ -43,11 +41,7 @@ fn copy_token(text: &[u8], token: Token, out: &mut [u8], put: usize)
 {
     let at = token.at.0 as usize;
     let len = token.len as usize;
-    let mut done = 0;
-    while done < len {
-        out[put + done] = text[at + done];
-        done += 1;
-    }
+    out[put..put + len].copy_from_slice(&text[at..at + len]);
 }
 
 // Writes a piece to the output, from the place `put` on.

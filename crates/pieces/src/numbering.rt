@@ -22,12 +22,7 @@ pub fn letter(operator: Operator) -> u8
 pub fn operator_number(operator: Operator) -> u32
     ensures { result ≡ operator_number operator }
 {
-    match operator {
-        Operator::A => 0,
-        Operator::B => 1,
-        Operator::C => 2,
-        Operator::D => 3,
-    }
+    operator as u32
 }
 
 pub fn operator_of(number: u32) -> Operator
