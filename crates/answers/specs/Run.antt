@@ -31,6 +31,9 @@ run_refusal_numbers (OutShort needed) = outshort_numbers needed
 abbrev pub RunAnswer : Type 0
 RunAnswer = Result Ran RunRefusal
 
+abbrev pub ran : Ending → (steps cells length : ℕ) → Ran
+ran ending steps cells length = record { ending = ending; steps = steps; cells = cells; length = length }
+
 abbrev pub ran_numbers : Ran → Numbers
 ran_numbers r =
     record { number = ending_number r.ending; steps = r.steps; cells = r.cells; length = r.length; place = 0 }
@@ -44,11 +47,8 @@ pub record HowRan : Type 0 where
   pub ending : Ending
   pub steps : ℕ
 
-abbrev pub ran_as : HowRan → (cells length : ℕ) → Ran
-ran_as how cells length = record { ending = how.ending; steps = how.steps; cells = cells; length = length }
-
 abbrev pub run_family : Family RunRefusal HowRan RunAnswer
-run_family = record { refused = Err; out_short = OutShort; given = λ how cells length. Ok (ran_as how cells length) }
+run_family = record { refused = Err; out_short = OutShort; given = λ how cells length. Ok (ran how.ending how.steps cells length) }
 
 unfoldable pub as_run : {L : Type 0} → Run L → Outcome RunRefusal HowRan
 as_run (RAN e steps p) = GIVES (record { ending = e; steps = steps }) (cells p) (print p)
