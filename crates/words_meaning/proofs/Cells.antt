@@ -1,7 +1,7 @@
 -- How many cells a linked plan has, without linking it: each token counts for the cells of what it stands for.
 use Prim.Native.Nat.{ℕ, ◌+◌}
 use mathlib.Core.Path.{◌≡◌, refl}
-use Rattle.std.specs.Prelude.{Option, None as none, Some as some}
+use Rattle.std.specs.Prelude.{Option, None, Some}
 use mathlib.Core.List.{List}
 use native.Mathlib.Omega.{arith}
 use Rattle.plan.specs.Plan.{Plan, end, operator, token, block, cells}
@@ -13,8 +13,8 @@ module _ {L : Type 0} where
   -- the cells of what is put in a token's place, before more items
   cells-in_place : (s : Option (Plan L)) (l : L) (t : List ℕ) (p : Plan L) → cells (in_place s l t p) ≡ cells_put s + cells p
   unfolding cells in_place cells_put
-  cells-in_place none l t p = refl
-  cells-in_place (some q) l t p = cells-then q p
+  cells-in_place None l t p = refl
+  cells-in_place (Some q) l t p = cells-then q p
 
   -- a linked plan has as many cells as the plan has, each token counted for the cells of what it stands for
   pub cells-link : (stands : List ℕ → Option (Plan L)) (p : Plan L) → cells (link_plan stands p) ≡ cells_by (token_cells stands) p

@@ -2,7 +2,7 @@
 -- where it is.
 use Prim.Native.Nat.{ℕ}
 use mathlib.Core.Path.{◌≡◌, refl, ap, ◌∙◌}
-use Rattle.std.specs.Prelude.{Option, None as none, Some as some}
+use Rattle.std.specs.Prelude.{Option, None, Some}
 use mathlib.Core.List.{List, [], ◌∷◌, ◌++◌, append_assoc}
 use Rattle.plan.specs.Plan.{Plan, end, operator, token, block}
 use Rattle.plan.specs.Pieces.{Piece, OP, TOKEN, END, pieces}
@@ -20,8 +20,8 @@ module _ {L : Type 0} (stands : List ℕ → Option (Plan L)) where
   -- the pieces of what is put in a token's place, before more items
   pieces-in_place : (s : Option (Plan L)) (l : L) (t : List ℕ) (p : Plan L) → pieces (in_place s l t p) ≡ put_for s (TOKEN l t) ++ pieces p
   unfolding in_place put_for pieces
-  pieces-in_place none l t p = refl
-  pieces-in_place (some q) l t p = pieces_then q p
+  pieces-in_place None l t p = refl
+  pieces-in_place (Some q) l t p = pieces_then q p
 
   -- the pieces of a linked plan are its own pieces in order, each listed token's place taken by the pieces of what it stands for
   pub pieces-link : (p : Plan L) → pieces (link_plan stands p) ≡ linked_pieces stands (pieces p)

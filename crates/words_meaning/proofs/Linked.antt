@@ -2,7 +2,7 @@
 use Prim.Native.Nat.{ℕ}
 use mathlib.Core.Path.{◌≡◌, refl, ap, ap₂, sym, ◌∙◌}
 use mathlib.Core.Bool.{Bool, true, false, ◌||◌, or_assoc, or-true}
-use Rattle.std.specs.Prelude.{Option, None as none, Some as some}
+use Rattle.std.specs.Prelude.{Option, None, Some}
 use mathlib.Core.List.{List}
 use Rattle.plan.specs.Plan.{Plan, end, operator, token, block, ◌then◌}
 use Rattle.plan.specs.Token.{Allowed, KeptToken}
@@ -29,22 +29,22 @@ module _ {L : Type 0} where
   -- what is put in a token's place, before more items
   in_place-then : (s : Option (Plan L)) (l : L) (t : List ℕ) (p q : Plan L) → in_place s l t (p then q) ≡ in_place s l t p then q
   unfolding in_place ◌then◌
-  in_place-then none l t p q = refl
-  in_place-then (some r) l t p q = sym (then_assoc r p q)
+  in_place-then None l t p q = refl
+  in_place-then (Some r) l t p q = sym (then_assoc r p q)
 
   -- it holds a token only if the plan stood for does, or the token that stays is that one, or the items behind hold it
-  holds-in_place : (t : List ℕ) (s : Option (Plan L)) (l : L) (u : List ℕ) (p : Plan L) → (s ≡ none → same t u ≡ false)
-      → ((q : Plan L) → s ≡ some q → holds t q ≡ false) → holds t p ≡ false → holds t (in_place s l u p) ≡ false
+  holds-in_place : (t : List ℕ) (s : Option (Plan L)) (l : L) (u : List ℕ) (p : Plan L) → (s ≡ None → same t u ≡ false)
+      → ((q : Plan L) → s ≡ Some q → holds t q ≡ false) → holds t p ≡ false → holds t (in_place s l u p) ≡ false
   unfolding holds in_place
-  holds-in_place t none l u p stays put more = ap₂ ◌||◌ (stays refl) more
-  holds-in_place t (some q) l u p stays put more = holds_then t q p ∙ ap₂ ◌||◌ (put q refl) more
+  holds-in_place t None l u p stays put more = ap₂ ◌||◌ (stays refl) more
+  holds-in_place t (Some q) l u p stays put more = holds_then t q p ∙ ap₂ ◌||◌ (put q refl) more
 
   -- its tokens are allowed if the plan's and the rest's are
   allowed-in_place : (limit : ℕ) (s : Option (Plan L)) (l : L) (t : List ℕ) (p : Plan L) → KeptToken limit t
-      → ((q : Plan L) → s ≡ some q → Allowed limit q) → Allowed limit p → Allowed limit (in_place s l t p)
+      → ((q : Plan L) → s ≡ Some q → Allowed limit q) → Allowed limit p → Allowed limit (in_place s l t p)
   unfolding in_place
-  allowed-in_place limit none l t p fine put more = (fine, more)
-  allowed-in_place limit (some q) l t p fine put more = allowed_then limit q p (put q refl) more
+  allowed-in_place limit None l t p fine put more = (fine, more)
+  allowed-in_place limit (Some q) l t p fine put more = allowed_then limit q p (put q refl) more
 
 module _ {L : Type 0} (stands : List ℕ → Option (Plan L)) where
   -- one sequence then another is linked part by part
@@ -56,7 +56,7 @@ module _ {L : Type 0} (stands : List ℕ → Option (Plan L)) where
   link-then (block l b p) q = ap (block l (link_plan stands b)) (link-then p q)
 
   -- a plan stays as it is where each of its tokens stands for none
-  pub link_unlisted : (p : Plan L) → ((t : List ℕ) → holds t p ≡ true → stands t ≡ none) → link_plan stands p ≡ p
+  pub link_unlisted : (p : Plan L) → ((t : List ℕ) → holds t p ≡ true → stands t ≡ None) → link_plan stands p ≡ p
   unfolding link_plan holds in_place
   link_unlisted end h = refl
   link_unlisted (operator l o p) h = ap (operator l o) (link_unlisted p h)
@@ -67,8 +67,8 @@ module _ {L : Type 0} (stands : List ℕ → Option (Plan L)) where
       ap₂ (block l) (link_unlisted b (λ u e. h u (ap (◌|| holds u p) e))) (link_unlisted p (λ u e. h u (ap (holds u b ||◌) e ∙ or-true (holds u b))))
 
   -- a linked plan does not hold a token that stands for a plan, or that the plan did not hold, if no plan that is put in holds it
-  pub holds-link : (t : List ℕ) (p : Plan L) → (stands t ≡ none → holds t p ≡ false)
-      → ((u : List ℕ) (q : Plan L) → holds u p ≡ true → stands u ≡ some q → holds t q ≡ false) → holds t (link_plan stands p) ≡ false
+  pub holds-link : (t : List ℕ) (p : Plan L) → (stands t ≡ None → holds t p ≡ false)
+      → ((u : List ℕ) (q : Plan L) → holds u p ≡ true → stands u ≡ Some q → holds t q ≡ false) → holds t (link_plan stands p) ≡ false
   unfolding link_plan holds
   holds-link t end gone put = refl
   holds-link t (operator l o p) gone put = holds-link t p gone put
@@ -76,7 +76,7 @@ module _ {L : Type 0} (stands : List ℕ → Option (Plan L)) where
       let more = holds-link t p (λ e. (neither (same t u) (holds t p) (gone e)).1) (λ v q h. put v q (ap (same v u ||◌) h ∙ or-true (same v u))) in
       holds-in_place t (stands u) l u (link_plan stands p) (λ e. other (same t u) refl e) (λ q. put u q (ap (◌|| holds u p) (same_self u))) more
     where
-      other : (x : Bool) → same t u ≡ x → stands u ≡ none → same t u ≡ false
+      other : (x : Bool) → same t u ≡ x → stands u ≡ None → same t u ≡ false
       other true h e = (neither (same t u) (holds t p) (gone (ap stands (same_equal t u h) ∙ e))).0
       other false h e = h
   holds-link t (block l b p) gone put =
@@ -85,7 +85,7 @@ module _ {L : Type 0} (stands : List ℕ → Option (Plan L)) where
       ap₂ ◌||◌ inner more
 
   -- a plan with allowed tokens is linked to one, if the plans put in have allowed tokens
-  pub allowed-link : (limit : ℕ) (p : Plan L) → Allowed limit p → ((t : List ℕ) (q : Plan L) → stands t ≡ some q → Allowed limit q)
+  pub allowed-link : (limit : ℕ) (p : Plan L) → Allowed limit p → ((t : List ℕ) (q : Plan L) → stands t ≡ Some q → Allowed limit q)
       → Allowed limit (link_plan stands p)
   unfolding link_plan
   allowed-link limit end h put = tt

@@ -4,7 +4,7 @@ use Prim.Native.Nat.{ℕ, zero, suc, ◌+◌, ◌≤◌}
 use mathlib.Core.Path.{◌≡◌, refl, ap, sym, subst, ◌∙◌}
 use mathlib.Core.Logic.{◌↔◌}
 use mathlib.Core.Bool.{Bool, true, false, cond, not, ◌&&◌, ◌||◌, or-true}
-use Rattle.std.specs.Prelude.{Option, None as none, Some as some}
+use Rattle.std.specs.Prelude.{Option, None, Some}
 use mathlib.Core.List.{List, [], ◌∷◌, ◌++◌}
 use native.Mathlib.Omega.{arith}
 use borrow.Author.Tests.{leb-true, not-true}
@@ -95,7 +95,7 @@ stock-right lim list {ws} e = go (number list) e
 
 module _ (limit : ℕ) where
   -- a token that no word has stands for none
-  unlisted_none : (ws : List Word) (t : List ℕ) → listed t ws ≡ false → stands_for limit ws t ≡ none
+  unlisted_none : (ws : List Word) (t : List ℕ) → listed t ws ≡ false → stands_for limit ws t ≡ None
   unfolding stands_for listed
   unlisted_none [] t e = refl
   unlisted_none (w ∷ older) t e =
@@ -103,30 +103,30 @@ module _ (limit : ℕ) where
       rw apart (unlisted_none older t more)
 
   -- and only such a one does
-  none_unlisted : (ws : List Word) (t : List ℕ) → stands_for limit ws t ≡ none → listed t ws ≡ false
+  none_unlisted : (ws : List Word) (t : List ℕ) → stands_for limit ws t ≡ None → listed t ws ≡ false
   unfolding stands_for listed
   none_unlisted [] t e = refl
   none_unlisted (w ∷ older) t e = go (same t (stock_token w)) e (none_unlisted older t)
     where
-      go : (x : Bool) → cond x (some (link_plan (stands_for limit older) (plan_of limit w.text))) (stands_for limit older t) ≡ none
-          → (stands_for limit older t ≡ none → listed t older ≡ false) → (x || listed t older) ≡ false
+      go : (x : Bool) → cond x (Some (link_plan (stands_for limit older) (plan_of limit w.text))) (stands_for limit older t) ≡ None
+          → (stands_for limit older t ≡ None → listed t older ≡ false) → (x || listed t older) ≡ false
       go true e more = never cc
       go false e more = more e
 
   -- a token stands for none exactly when no word has it
-  pub stands_none : (ws : List Word) (t : List ℕ) → (stands_for limit ws t ≡ none) ↔ (listed t ws ≡ false)
+  pub stands_none : (ws : List Word) (t : List ℕ) → (stands_for limit ws t ≡ None) ↔ (listed t ws ≡ false)
   stands_none ws t = (none_unlisted ws t, unlisted_none ws t)
 
   -- what stands for a plan is the newest word's token, or stands for it by the older words
-  stands_cases : (w : Word) (older : List Word) (t : List ℕ) {q : Plan ℕ} (P : Plan ℕ → Type 0) → stands_for limit (w ∷ older) t ≡ some q
-      → (t ≡ stock_token w → P (link_plan (stands_for limit older) (plan_of limit w.text))) → (stands_for limit older t ≡ some q → P q) → P q
+  stands_cases : (w : Word) (older : List Word) (t : List ℕ) {q : Plan ℕ} (P : Plan ℕ → Type 0) → stands_for limit (w ∷ older) t ≡ Some q
+      → (t ≡ stock_token w → P (link_plan (stands_for limit older) (plan_of limit w.text))) → (stands_for limit older t ≡ Some q → P q) → P q
   unfolding stands_for
   stands_cases w older t {q} P e newest earlier = go (same t (stock_token w)) refl e
     where
       put : Plan ℕ
       put = link_plan (stands_for limit older) (plan_of limit w.text)
 
-      go : (x : Bool) → same t (stock_token w) ≡ x → cond x (some put) (stands_for limit older t) ≡ some q → P q
+      go : (x : Bool) → same t (stock_token w) ≡ x → cond x (Some put) (stands_for limit older t) ≡ Some q → P q
       go true h e = subst P (let is : put ≡ q = cc in is) (newest (same_equal t (stock_token w) h))
       go false h e = earlier e
 
@@ -140,7 +140,7 @@ module _ (limit : ℕ) where
     pub plan_is : q ≡ link_plan (stands_for limit older) (plan_of limit word.text)
 
   -- a token that stands for a plan names a word of the list, and stands for that word's plan, linked by the words before it
-  stands_some : (ws : List Word) (t : List ℕ) {q : Plan ℕ} → stands_for limit ws t ≡ some q → NamedWord ws t q
+  stands_some : (ws : List Word) (t : List ℕ) {q : Plan ℕ} → stands_for limit ws t ≡ Some q → NamedWord ws t q
   unfolding stands_for
   stands_some [] t e = never cc
   stands_some (w ∷ older) t {q} e =
@@ -160,7 +160,7 @@ module _ (limit : ℕ) where
           }
 
   -- a token that no word uses is not put in by any
-  unused_out : (ws : List Word) (t : List ℕ) → used limit t ws ≡ false → (u : List ℕ) (q : Plan ℕ) → stands_for limit ws u ≡ some q → holds t q ≡ false
+  unused_out : (ws : List Word) (t : List ℕ) → used limit t ws ≡ false → (u : List ℕ) (q : Plan ℕ) → stands_for limit ws u ≡ Some q → holds t q ≡ false
   unfolding stands_for used
   unused_out [] t h u q e = never cc
   unused_out (w ∷ older) t h u q e =
@@ -170,7 +170,7 @@ module _ (limit : ℕ) where
       (λ named. holds-link (stands_for limit older) t (plan_of limit w.text) (λ n. own) (λ v p held. put v p)) (put u q)
 
   -- one that a word has, and that is put in by none, is put out by linking
-  listed-out : (ws : List Word) (t : List ℕ) → listed t ws ≡ true → ((u : List ℕ) (q : Plan ℕ) → stands_for limit ws u ≡ some q → holds t q ≡ false)
+  listed-out : (ws : List Word) (t : List ℕ) → listed t ws ≡ true → ((u : List ℕ) (q : Plan ℕ) → stands_for limit ws u ≡ Some q → holds t q ≡ false)
       → (p : Plan ℕ) → holds t (link_plan (stands_for limit ws) p) ≡ false
   listed-out ws t l put p =
       holds-link (stands_for limit ws) t p (λ n. false_is_not_true (sym (none_unlisted ws t n) ∙ l)) (λ u q held. put u q)
@@ -184,7 +184,7 @@ listed-there (v ∷ newer) older w =
 
 -- the token of a word of a right list stands for that word's plan, linked by the words before it
 pub stands_word : (lim : Limits) (newer older : List Word) (w : Word) → Right lim (newer ++ w ∷ older)
-    → stands_for lim.token (newer ++ w ∷ older) (stock_token w) ≡ some (link_plan (stands_for lim.token older) (plan_of lim.token w.text))
+    → stands_for lim.token (newer ++ w ∷ older) (stock_token w) ≡ Some (link_plan (stands_for lim.token older) (plan_of lim.token w.text))
 unfolding stands_for
 stands_word lim [] older w r = rw (same_self (stock_token w))
 stands_word lim (v ∷ newer) older w (r, more) = rw (same_false (stock_token w) (stock_token v) other) (stands_word lim newer older w more)
@@ -204,7 +204,7 @@ or_cases false b e one other = other e
 module _ (lim : Limits) where
   -- no plan that a token stands for holds a listed token: the words up to its own do not use it, and those after are linked by its own
   no_listed_put : (ws : List Word) → Right lim ws → (t : List ℕ) → listed t ws ≡ true
-      → (u : List ℕ) (q : Plan ℕ) → stands_for lim.token ws u ≡ some q → holds t q ≡ false
+      → (u : List ℕ) (q : Plan ℕ) → stands_for lim.token ws u ≡ Some q → holds t q ≡ false
   unfolding listed
   no_listed_put [] r t l u q e = false_is_not_true l
   no_listed_put (w ∷ older) (one, r) t l u q e =
@@ -228,12 +228,12 @@ module _ (lim : Limits) where
       s : List ℕ → Option (Plan ℕ)
       s = stands_for lim.token ws
 
-      go : (t : List ℕ) (x : Bool) → listed t ws ≡ x → holds t (link_plan s p) ≡ true → s t ≡ none
+      go : (t : List ℕ) (x : Bool) → listed t ws ≡ x → holds t (link_plan s p) ≡ true → s t ≡ None
       go t true l h = false_is_not_true (sym (no_listed_token ws r t l p) ∙ h)
       go t false l h = unlisted_none lim.token ws t l
 
   -- what a token stands for has allowed tokens
-  pub stands_allowed : (ws : List Word) → Right lim ws → (t : List ℕ) (q : Plan ℕ) → stands_for lim.token ws t ≡ some q → Allowed lim.token q
+  pub stands_allowed : (ws : List Word) → Right lim ws → (t : List ℕ) (q : Plan ℕ) → stands_for lim.token ws t ≡ Some q → Allowed lim.token q
   unfolding stands_for
   stands_allowed [] r t q e = never cc
   stands_allowed (w ∷ older) (one, r) t q e =

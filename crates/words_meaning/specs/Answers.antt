@@ -1,17 +1,21 @@
 -- What linking answers and what it leaves, for every input.
-use Rattle.std.specs.Prelude.{ℕ, cond, List, leb}
+use Rattle.std.specs.Prelude.{ℕ, cond, List, leb, Result, Ok, Err}
 use Rattle.kinds.specs.Limits.{Limits}
 use Rattle.plan.specs.Outcomes.{Family, GIVES, Outcome, REFUSES}
 use Rattle.plan.specs.Plan.{Plan, cells, print}
+use Rattle.plan.specs.Read.{sized}
 use Rattle.plan.specs.Reading.{FAULT, PLAN, Reading, read_text}
+use Rattle.plan.specs.declared.Size.{Size}
 use Rattle.numbers.specs.Numbers.{fault_numbers, given_numbers, outshort_numbers, refused_numbers}
 use Rattle.numbers.specs.declared.Numbers.{Numbers}
-use Rattle.words_meaning.specs.declared.LinkAnswer.{LinkAnswer}
-use Rattle.words_meaning.specs.declared.LinkAnswer.TheVariants.{Linked, Refused}
 use Rattle.words_meaning.specs.declared.LinkRefusal.{LinkRefusal}
 use Rattle.words_meaning.specs.declared.LinkRefusal.TheVariants.{BadWords, Text, Overfull, OutShort}
 use Rattle.words_meaning.specs.Linking.{Word, link_plan, stands_for}
 use Rattle.words_meaning.specs.Stock.{LIST_FAULT as LIST_FAULT, Stock, WORDS, stock}
+
+-- What linking answers. A refusal has no cells and no length.
+abbrev pub LinkAnswer : Type 0
+LinkAnswer = Result Size LinkRefusal
 
 abbrev pub link_refusal_numbers : LinkRefusal → Numbers
 link_refusal_numbers (BadWords rank) = refused_numbers 26 rank
@@ -20,11 +24,11 @@ link_refusal_numbers Overfull = refused_numbers 17 0
 link_refusal_numbers (OutShort needed) = outshort_numbers needed
 
 abbrev pub link_numbers : LinkAnswer → Numbers
-link_numbers (Linked cells length) = given_numbers cells length
-link_numbers (Refused r) = link_refusal_numbers r
+link_numbers (Ok s) = given_numbers s.cells s.length
+link_numbers (Err r) = link_refusal_numbers r
 
 abbrev pub link_family : Family LinkRefusal (Unit {0}) LinkAnswer
-link_family = record { refused = Refused; out_short = OutShort; given = λ u cells length. Linked cells length }
+link_family = record { refused = Err; out_short = OutShort; given = λ u cells length. Ok (sized cells length) }
 
 -- A linked plan, where it is not too large. One that is too large is refused without a place, since it stands in no text yet.
 unfoldable pub linked_within : Limits → Plan ℕ → Outcome LinkRefusal (Unit {0})

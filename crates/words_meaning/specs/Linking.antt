@@ -1,7 +1,7 @@
 -- Stock words: what a token `{%name}` stands for, and linking, which puts that where the token stands. Words are given the newest first, so
 -- that the words before a word are the rest of the list.
 use Rattle.std.specs.Prelude.{ℕ, Bool, false, cond, ◌||◌, List, [], ◌∷◌}
-use Rattle.std.specs.Prelude.{Option, None as none, Some as some}
+use Rattle.std.specs.Prelude.{Option, None, Some}
 use Rattle.plan.specs.Plan.{Plan, end, operator, token, block, ◌then◌}
 use Rattle.plan.specs.Reading.{plan_of}
 use Rattle.stored.specs.Same.{same}
@@ -19,8 +19,8 @@ stock_token w = percent ∷ w.name
 
 -- the items that a token stands for, put into its sequence; a token that stands for none stays
 unfoldable pub in_place : {L : Type 0} → Option (Plan L) → L → List ℕ → Plan L → Plan L
-in_place none l t p = token l t p
-in_place (some q) l t p = q then p
+in_place None l t p = token l t p
+in_place (Some q) l t p = q then p
 
 unfoldable pub link_plan : {L : Type 0} → (stands : List ℕ → Option (Plan L)) → Plan L → Plan L
 link_plan stands end = end
@@ -30,10 +30,10 @@ link_plan stands (block l b p) = block l (link_plan stands b) (link_plan stands 
 
 -- what a token stands for by these words: the plan of the word that it names, linked by the words before that one
 unfoldable pub stands_for : (limit : ℕ) → List Word → List ℕ → Option (Plan ℕ)
-stands_for limit [] t = none
+stands_for limit [] t = None
 stands_for limit (w ∷ older) t =
     let earlier = stands_for limit older t in
-    cond (same t (stock_token w)) (some (link_plan (λ u. stands_for limit older u) (plan_of limit w.text))) earlier
+    cond (same t (stock_token w)) (Some (link_plan (λ u. stands_for limit older u) (plan_of limit w.text))) earlier
 
 -- a token with the text t stands in the plan, at any depth
 unfoldable pub holds : {L : Type 0} → (t : List ℕ) → Plan L → Bool

@@ -1,14 +1,14 @@
 -- Linking, told by the places where tokens stand: which pieces come in each place, and how many cells. The laws show that this is the linked
 -- plan, so every other token, every operator and every block stays, in order.
 use Rattle.std.specs.Prelude.{ℕ, ◌+◌, List, [], ◌∷◌, ◌++◌}
-use Rattle.std.specs.Prelude.{Option, None as none, Some as some}
+use Rattle.std.specs.Prelude.{Option, None, Some}
 use Rattle.plan.specs.Plan.{Plan, end, operator, token, block, cells}
 use Rattle.plan.specs.Pieces.{Piece, OP, TOKEN, BEGIN, END, pieces}
 
 -- the pieces of the plan that a token stands for, or its own piece
 unfoldable pub put_for : {L : Type 0} → Option (Plan L) → Piece L → List (Piece L)
-put_for none x = x ∷ []
-put_for (some q) x = pieces q
+put_for None x = x ∷ []
+put_for (Some q) x = pieces q
 
 -- what a piece gives way to
 unfoldable pub gives_way_to : {L : Type 0} → (stands : List ℕ → Option (Plan L)) → Piece L → List (Piece L)
@@ -31,8 +31,8 @@ cells_by count (block l b p) = 1 + cells_by count b + cells_by count p
 
 -- the cells of what a token stands for: of itself, if it stands for none
 unfoldable pub cells_put : {L : Type 0} → Option (Plan L) → ℕ
-cells_put none = 1
-cells_put (some q) = cells q
+cells_put None = 1
+cells_put (Some q) = cells q
 
 -- how many cells a token counts for, by what it stands for
 unfoldable pub token_cells : {L : Type 0} → (stands : List ℕ → Option (Plan L)) → List ℕ → ℕ

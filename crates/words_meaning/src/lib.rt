@@ -3,20 +3,21 @@
 #![tactic(auto)]
 
 ghost use Rattle.std.specs.Prelude.{◌≡◌};
-ghost use Rattle.words_meaning.specs.Answers.{link_numbers, link_refusal_numbers};
+ghost use Rattle.words_meaning.specs.Answers.{link_refusal_numbers};
+ghost use Rattle.words_meaning.specs.declared.LinkRefusal.TheVariants.{Text};
 
 use kinds::Token;
-use numbers::{Numbers, given, of_fault, out_short, refused};
+use numbers::Numbers;
 use plan::TextFault;
 
 // No list has more words.
-pub const MOST: u32 = 256;
+pub const MOST: usize = 256;
 
 // The most bytes of a name: `{`, `%` and `}` are the token's and not the name's.
 pub const NAME_LIMIT: usize = Token::LIMIT - 3;
 
-// Why a call is refused, with the place that goes with it.
-#[derive(Clone, Copy)]
+// Why a call is refused, with the place that goes with it. A call that is not refused answers the linked plan's `plan::Size`.
+#[derive(Clone, Copy, PartialEq, Eq)]
 pub enum LinkRefusal {
     // The least rank at fault.
     BadWords(u32),
@@ -26,29 +27,23 @@ pub enum LinkRefusal {
     OutShort(u32),
 }
 
-// What linking answers. A refusal has no cells and no length.
-#[derive(Clone, Copy)]
-pub enum LinkAnswer {
-    Linked { cells: u32, length: u32 },
-    Refused(LinkRefusal),
-}
+impl From<TextFault> for LinkRefusal {
+    ghost from_gives = { λ f r. r ≡ Text f };
 
-fn of_link_refusal(refusal: LinkRefusal) -> Numbers
-    ensures { result ≡ link_refusal_numbers refusal }
-{
-    match refusal {
-        LinkRefusal::BadWords(rank) => refused(26, rank),
-        LinkRefusal::Text(fault) => of_fault(fault),
-        LinkRefusal::Overfull => refused(17, 0),
-        LinkRefusal::OutShort(needed) => out_short(needed),
+    fn from(fault: TextFault) -> LinkRefusal {
+        LinkRefusal::Text(fault)
     }
 }
 
-pub fn of_link(answer: LinkAnswer) -> Numbers
-    ensures { result ≡ link_numbers answer }
-{
-    match answer {
-        LinkAnswer::Linked { cells, length } => given(cells, length),
-        LinkAnswer::Refused(refusal) => of_link_refusal(refusal),
+impl From<LinkRefusal> for Numbers {
+    ghost from_gives = { λ r n. n ≡ link_refusal_numbers r };
+
+    fn from(refusal: LinkRefusal) -> Numbers {
+        match refusal {
+            LinkRefusal::BadWords(rank) => Numbers::refused(26, rank),
+            LinkRefusal::Text(fault) => fault.into(),
+            LinkRefusal::Overfull => Numbers::refused(17, 0),
+            LinkRefusal::OutShort(needed) => Numbers::out_short(needed),
+        }
     }
 }
