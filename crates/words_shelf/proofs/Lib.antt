@@ -1,4 +1,2 @@
-pub mod Keeping
-pub mod Noting
 pub mod Seeking
 pub mod StandsFor

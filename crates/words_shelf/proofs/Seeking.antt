@@ -1,7 +1,7 @@
 -- Looking for the word that a token names, the newest first.
 use Prim.Native.Nat.{ℕ, zero, suc, ◌+◌, ◌-◌, ◌≤◌}
+use Rattle.std.specs.Prelude.{Option, Some, None}
 use mathlib.Core.Path.{◌≡◌, refl, ap, ap₂, sym, subst, ◌∙◌}
-use mathlib.Core.Bool.{Bool, true, false, cond}
 use mathlib.Core.List.{List, [], ◌∷◌, ◌++◌, append_assoc}
 use native.Mathlib.Omega.{arith}
 use borrow.Author.Tests.{ne_eqb}
@@ -15,44 +15,37 @@ use Rattle.pieces.specs.Written.{Is, TokenAt, is_close, is_open, is_operator, is
 use Rattle.pieces.specs.declared.Piece.{Piece}
 use Rattle.pieces.specs.declared.Piece.TheVariants.{Token as Tok}
 use Rattle.stored.specs.Same.{same}
+use Rattle.stored.proofs.Same.{same_false, same_true}
 use Rattle.words_meaning.specs.Linking.{percent}
-use Rattle.words_shelf.specs.declared.Named.{Named}
-use Rattle.words_shelf.specs.declared.Named.TheVariants.{Unlisted, Listed}
-use Rattle.words_shelf.specs.Shelf.{TokenStands, seek, seek_piece, word_of}
+use Rattle.words_shelf.specs.Words.{word_of}
+use Rattle.words_shelf.specs.declared.WordAt.{WordAt}
+use Rattle.words_shelf.specs.Shelf.{TokenStands, seek, seek_piece}
 
-module _ (list spans name : List ℕ) where
-  -- the word just below a rank is the one, or the words before it are asked
-  module _ {rank : ℕ} (h : 1 ≤ rank) {r : Bool} (told : r ≡ same name (word_of list spans (rank - 1)).name) where
-    step : seek list spans rank (percent ∷ name) ≡ cond r (Listed (rank - 1)) (seek list spans (rank - 1) (percent ∷ name))
+module _ (list : List ℕ) (words : List WordAt) (name : List ℕ) where
+  -- the word just below a rank has the name, or the words before it are asked
+  module _ {rank k : ℕ} (e : suc k ≡ rank) {found : List ℕ} (is : found ≡ (word_of list words k).name) where
+    pub seek-here : found ≡ name → Some k ≡ seek list words rank (percent ∷ name)
     unfolding seek same
-    step = go rank h told
-      where
-        go : (n : ℕ) → 1 ≤ n → r ≡ same name (word_of list spans (n - 1)).name
-            → seek list spans n (percent ∷ name) ≡ cond r (Listed (n - 1)) (seek list spans (n - 1) (percent ∷ name))
-        go zero g e = absurd (omega arith)
-        go (suc n) g e =
-            let below : suc n - 1 ≡ n = omega arith in
-            let told_below = subst (λ k. r ≡ same name (word_of list spans k).name) below e in
-            rw below (ap (λ b. cond b (Listed n) (seek list spans n (percent ∷ name))) (sym told_below))
+    seek-here h =
+        sym (rw (same_true name (word_of list words k).name (sym h ∙ is)) refl) ∙ ap (λ n. seek list words n (percent ∷ name)) e
 
-    pub seek-here : r ≡ true → Listed (rank - 1) ≡ seek list spans rank (percent ∷ name)
-    seek-here e = sym (step ∙ ap (λ b. cond b (Listed (rank - 1)) (seek list spans (rank - 1) (percent ∷ name))) e)
+    pub seek_on : (found ≡ name → ⊥) → seek list words rank (percent ∷ name) ≡ seek list words k (percent ∷ name)
+    unfolding seek same
+    seek_on h =
+        ap (λ n. seek list words n (percent ∷ name)) (sym e) ∙ rw (same_false name (word_of list words k).name (λ q. h (is ∙ sym q))) refl
 
-    pub seek_on : r ≡ false → seek list spans rank (percent ∷ name) ≡ seek list spans (rank - 1) (percent ∷ name)
-    seek_on e = step ∙ ap (λ b. cond b (Listed (rank - 1)) (seek list spans (rank - 1) (percent ∷ name))) e
-
-  pub seek_none : (rank : ℕ) → rank ≡ 0 → seek list spans rank (percent ∷ name) ≡ Unlisted
+  pub seek_none : {rank : ℕ} → rank ≤ 0 → None ≡ seek list words rank (percent ∷ name)
   unfolding seek
-  seek_none rank e = ap (λ n. seek list spans n (percent ∷ name)) e
+  seek_none {rank} h = let e : 0 ≡ rank = omega arith in ap (λ n. seek list words n (percent ∷ name)) e
 
 -- a token whose text does not begin with `%` names none
-module _ (list spans : List ℕ) where
-  other : (n b : ℕ) (t : List ℕ) → (b ≡ percent → ⊥) → seek list spans n (b ∷ t) ≡ Unlisted
+module _ (list : List ℕ) (words : List WordAt) where
+  other : (n b : ℕ) (t : List ℕ) → (b ≡ percent → ⊥) → seek list words n (b ∷ t) ≡ None
   unfolding seek same
   other zero b t h = refl
   other (suc n) b t h = rw (ne_eqb b percent h) (other n b t h)
 
-  nothing : (n : ℕ) → seek list spans n [] ≡ Unlisted
+  nothing : (n : ℕ) → seek list words n [] ≡ None
   unfolding seek same
   nothing zero = refl
   nothing (suc n) = nothing n
@@ -77,10 +70,10 @@ module _ (list spans : List ℕ) where
     second : get_or text (at + 1) 0 ≡ get_or (t ++ rest) 0 0
     second = sym (get_or-drop at text 1 0) ∙ ap (λ l. get_or l 1 0) shape
 
-    pub seek_other : (get_or text (at + 1) 0 ≡ percent → ⊥) → Unlisted ≡ seek list spans n t
+    pub seek_other : (get_or text (at + 1) 0 ≡ percent → ⊥) → None ≡ seek list words n t
     seek_other h = sym (go t second)
       where
-        go : (u : List ℕ) → get_or text (at + 1) 0 ≡ get_or (u ++ rest) 0 0 → seek list spans n u ≡ Unlisted
+        go : (u : List ℕ) → get_or text (at + 1) 0 ≡ get_or (u ++ rest) 0 0 → seek list words n u ≡ None
         go [] e = nothing n
         go (b ∷ u) e = other n b u (λ q. h (e ∙ q))
 
@@ -92,9 +85,9 @@ module _ (list spans : List ℕ) where
         go [] e l = absurd (let z : ◌≡◌ {A = ℕ} 125 37 = sym e ∙ h in omega arith)
         go (b ∷ u) e l = omega arith
 
-    pub seek_token : {r : Named} → get_or text (at + 1) 0 ≡ percent → r ≡ seek list spans n (percent ∷ take (at + len - 1 - (at + 2)) (drop (at + 2) text)) → r ≡ seek list spans n t
+    pub seek_token : {r : Option ℕ} → get_or text (at + 1) 0 ≡ percent → r ≡ seek list words n (percent ∷ take (at + len - 1 - (at + 2)) (drop (at + 2) text)) → r ≡ seek list words n t
     unfolding rest
-    seek_token {r} h e = e ∙ ap (seek list spans n) (go t second token_long shape)
+    seek_token {r} h e = e ∙ ap (seek list words n) (go t second token_long shape)
       where
         go : (u : List ℕ) → get_or text (at + 1) 0 ≡ get_or (u ++ rest) 0 0 → len ≡ length u + 2 → drop at text ≡ open_brace ∷ (u ++ rest)
             → percent ∷ take (at + len - 1 - (at + 2)) (drop (at + 2) text) ≡ u
@@ -106,11 +99,11 @@ module _ (list spans : List ℕ) where
 
 -- a piece names what its token names, and only a token names any
 module _ {text : List ℕ} where
-  pub none_named : {x : PlanPiece ℕ} (list spans : List ℕ) (n : ℕ) {k : Piece} → Is text k x → ((j : Token) → k ≡ Tok j → ⊥) → Unlisted ≡ seek_piece list spans n x
-  none_named list spans n is_operator h = refl
-  none_named list spans n (is_token s) h = absurd (h _ refl)
-  none_named list spans n is_open h = refl
-  none_named list spans n is_close h = refl
+  pub none_named : {x : PlanPiece ℕ} (list : List ℕ) (words : List WordAt) (n : ℕ) {k : Piece} → Is text k x → ((j : Token) → k ≡ Tok j → ⊥) → None ≡ seek_piece list words n x
+  none_named list words n is_operator h = refl
+  none_named list words n (is_token s) h = absurd (h _ refl)
+  none_named list words n is_open h = refl
+  none_named list words n is_close h = refl
 
   token_is : {x : PlanPiece ℕ} {k : Piece} {j : Token} → Is text k x → k ≡ Tok j → (l : ℕ) × (t : List ℕ) × (x ≡ TOKEN l t) × TokenAt text j.at.0 j.len t
   token_is is_operator e = never cc
@@ -118,9 +111,9 @@ module _ {text : List ℕ} where
   token_is is_open e = never cc
   token_is is_close e = never cc
 
-  pub token_names : {x : PlanPiece ℕ} (list spans : List ℕ) (n : ℕ) {k : Piece} {j : Token} {r : Named} → Is text k x → k ≡ Tok j
-      → ((t : List ℕ) → TokenAt text j.at.0 j.len t → r ≡ seek list spans n t) → r ≡ seek_piece list spans n x
-  token_names list spans n is e h = let (l, t, same, s) = token_is is e in h t s ∙ ap (seek_piece list spans n) (sym same)
+  pub token_names : {x : PlanPiece ℕ} (list : List ℕ) (words : List WordAt) (n : ℕ) {k : Piece} {j : Token} {r : Option ℕ} → Is text k x → k ≡ Tok j
+      → ((t : List ℕ) → TokenAt text j.at.0 j.len t → r ≡ seek list words n t) → r ≡ seek_piece list words n x
+  token_names list words n is e h = let (l, t, same, s) = token_is is e in h t s ∙ ap (seek_piece list words n) (sym same)
 
   pub token_stands : {x : PlanPiece ℕ} {k : Piece} {j : Token} → Is text k x → k ≡ Tok j → TokenStands text j
   token_stands is e = let (l, t, same, s) = token_is is e in (t, s)

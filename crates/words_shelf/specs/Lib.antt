@@ -1,3 +1,2 @@
-pub mod Notes
 pub mod Shelf
-pub mod Spans
+pub mod Words

@@ -1,86 +1,105 @@
-// Where the names and the texts of a list's words stand, which word a token names, and what is remembered of each word. A word is known by
-// its rank. For each rank `spans` has where the word's name and its text stand in the list.
+// Where the names and the texts of a list's words stand, and which word a token names. A word is known by its rank.
 #![tactic(auto)]
 
-ghost use Rattle.std.specs.Prelude.{◌≡◌, ℕ, List, ◌∷◌};
-ghost use Rattle.plan.specs.Pieces.{Piece as PlanPiece};
-ghost use Rattle.pieces.specs.Written.{Is, TokenAt};
-ghost use Rattle.stored.specs.Same.{same};
-ghost use Rattle.words_meaning.specs.Linking.{percent};
-ghost use Rattle.words_shelf.specs.Shelf.{PieceStands, Shelved, TokenStands, seek, seek_piece, word_of};
-ghost use Rattle.words_shelf.specs.Spans.{WordKept};
+ghost use Rattle.std.specs.Prelude.{◌≡◌, ◌≤◌, ◌<◌};
+ghost use Rattle.words_meaning.specs.Stock.{word_limit};
+ghost use Rattle.words_shelf.specs.Words.{Shelved};
 
 use kinds::Token;
 use pieces::Piece;
+use stored::{Span, part};
+use words_meaning::MOST;
 
-mod notes;
-mod spans;
-
-pub use notes::{note, recall};
-use spans::name_of;
-pub use spans::{WORD_NUMBERS, keep, text_of};
-
-// Which of the first words a token names.
+// Where a word of a list stands: its name and its text.
 #[derive(Clone, Copy)]
-pub enum Named {
-    Unlisted,
-    Listed(u32),
+pub struct WordAt {
+    pub name: Span,
+    pub text: Span,
 }
 
-// The two numbers that are remembered for a word, if any are.
+// The words of a list below a rank, each by where it stands.
 #[derive(Clone, Copy)]
-pub enum Noted {
-    Nothing,
-    Both(u32, u32),
+pub struct Shelf<'a> {
+    pub list: &'a [u8],
+    pub words: &'a [WordAt; MOST],
+    pub below: usize,
+    pub ghost few: { below ≤ word_limit },
+    pub ghost shelved: { Shelved list.now words.now below },
 }
 
-// Whether the word of a rank has this name.
-fn is_named(list: &[u8], spans: &[u32], rank: u32, name: &[u8]) -> bool
-    requires { WordKept list.now spans.now rank }
-    ensures { result ≡ same name.now (word_of list.now spans.now rank).name }
-{
-    check::same(name, name_of(list, spans, rank))
-}
+impl<'a> Shelf<'a> {
+    ghost use Rattle.std.specs.Prelude.{ℕ, List, ◌∷◌};
+    ghost use Rattle.plan.specs.Pieces.{Piece as PlanPiece};
+    ghost use Rattle.pieces.specs.Written.{Is, TokenAt};
+    ghost use Rattle.words_meaning.specs.Linking.{percent};
+    ghost use Rattle.words_shelf.specs.Shelf.{PieceStands, TokenStands, seek, seek_piece};
+    ghost use Rattle.words_shelf.specs.Words.{word_of};
 
-// Which of the words below a rank has this name. No two of them have the same one.
-pub fn find(list: &[u8], spans: &[u32], below: u32, name: &[u8]) -> Named
-    requires { Shelved list.now spans.now below }
-    ensures { result ≡ seek list.now spans.now below (percent ∷ name.now) }
-{
-    let mut rank = below;
-    while 0 < rank {
-        rank -= 1;
-        if is_named(list, spans, rank, name) {
-            return Named::Listed(rank);
+    // The name of the word of a rank.
+    #[tactic(auto, unfolding(crate::specs::Words::word_of))]
+    fn name_of(&self, rank: usize) -> &'a [u8]
+        requires { rank < self.now.below }
+        ensures { result.now ≡ (word_of self.now.list.now self.now.words.now rank).name }
+    {
+        part(self.list, self.words[rank].name)
+    }
+
+    // The text of the word of a rank.
+    #[tactic(auto, unfolding(crate::specs::Words::word_of))]
+    pub fn text_of(&self, rank: usize) -> &'a [u8]
+        requires { rank < self.now.below }
+        ensures { result.now ≡ (word_of self.now.list.now self.now.words.now rank).text }
+    {
+        part(self.list, self.words[rank].text)
+    }
+
+    // The words before the word of a rank.
+    pub fn before(&self, rank: usize) -> Shelf<'a>
+        requires { rank ≤ self.now.below }
+        ensures list { result.list.now ≡ self.now.list.now }
+        ensures words { result.words.now ≡ self.now.words.now }
+        ensures below { result.below ≡ rank }
+    {
+        Shelf {
+            list: self.list,
+            words: self.words,
+            below: rank,
         }
     }
-    Named::Unlisted
-}
 
-// Which of the words below a rank a token of the text names: behind its `{` stands `%`, and then the name.
-fn find_token(list: &[u8], spans: &[u32], below: u32, text: &[u8], token: Token) -> Named
-    requires { Shelved list.now spans.now below × TokenStands text.now token }
-    ensures { (t : List ℕ) → TokenAt text.now token.at.0 token.len t → result ≡ seek list.now spans.now below t }
-{
-    let at = token.at.0 as usize;
-    let len = token.len as usize;
-    if text[at + 1] != b'%' {
-        return Named::Unlisted;
+    // Which of the words has this name. No two of them have the same one.
+    pub fn find(&self, name: &[u8]) -> Option<usize>
+        ensures { result ≡ seek self.now.list.now self.now.words.now self.now.below (percent ∷ name.now) }
+    {
+        for rank in (0..self.below).rev() {
+            if self.name_of(rank) == name {
+                return Some(rank);
+            }
+        }
+        None
     }
-    let start = at + 2;
-    let end = at + len - 1;
-    find(list, spans, below, &text[start..end])
-}
 
-// Which of the words below a rank a piece of the text names: only a token names any.
-pub fn find_piece(list: &[u8], spans: &[u32], below: u32, text: &[u8], piece: Piece) -> Named
-    requires { Shelved list.now spans.now below × PieceStands text.now piece }
-    ensures { (x : PlanPiece ℕ) → Is text.now piece x → result ≡ seek_piece list.now spans.now below x }
-{
-    match piece {
-        Piece::Operator(_) => Named::Unlisted,
-        Piece::Token(token) => find_token(list, spans, below, text, token),
-        Piece::Open => Named::Unlisted,
-        Piece::Close => Named::Unlisted,
+    // Which of the words a token of the text names: behind its `{` stands `%`, and then the name.
+    fn find_token(&self, text: &[u8], token: Token) -> Option<usize>
+        requires { TokenStands text.now token }
+        ensures { (t : List ℕ) → TokenAt text.now token.at.0 token.len t → result ≡ seek self.now.list.now self.now.words.now self.now.below t }
+    {
+        let at = token.at.0 as usize;
+        let len = token.len as usize;
+        if text[at + 1] != b'%' {
+            return None;
+        }
+        self.find(&text[at + 2..at + len - 1])
+    }
+
+    // Which of the words a piece of the text names: only a token names any.
+    pub fn find_piece(&self, text: &[u8], piece: Piece) -> Option<usize>
+        requires { PieceStands text.now piece }
+        ensures { (x : PlanPiece ℕ) → Is text.now piece x → result ≡ seek_piece self.now.list.now self.now.words.now self.now.below x }
+    {
+        match piece {
+            Piece::Token(token) => self.find_token(text, token),
+            Piece::Operator(_) | Piece::Open | Piece::Close => None,
+        }
     }
 }
