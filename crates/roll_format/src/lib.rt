@@ -11,7 +11,7 @@ pub const LONGEST: usize = LARGEST as usize;
 pub const FIRST: u8 = 1;
 
 // What an entry is.
-#[derive(Clone, Copy)]
+#[derive(Clone, Copy, PartialEq, Eq)]
 pub enum EntryKind {
     Filed,
     Done,

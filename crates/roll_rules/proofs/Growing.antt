@@ -5,12 +5,19 @@ use mathlib.Core.Bool.{Bool, true, false, cond}
 use mathlib.Core.List.{List, [], ◌∷◌}
 use native.Mathlib.Omega.{arith}
 use lib.ListN.{length}
+use mir.Val.{bool_byte}
 use Rattle.stored.specs.Counted.{largest}
 use Rattle.roll_rules.specs.Answers.{grown, sums}
 use Rattle.roll_format.specs.Format.{Entry, says}
 use Rattle.roll_rules.specs.Rules.{counts_done, counts_filed, done, filed}
 use Rattle.roll_rules.specs.declared.Sums.{Sums}
 use Rattle.roll_rules.specs.EntriesBefore.{one_entry_more}
+
+-- as the code adds: one or nothing, and no further than the largest number
+pub grown_capped : (more : Bool) (n : ℕ) {added r : ℕ} → n ≤ largest → added ≡ bool_byte more → r ≡ min (n + added) largest → r ≡ grown more n
+unfolding grown
+grown_capped true n few e f = f ∙ ap (λ k. min (n + k) largest) e
+grown_capped false n few e f = omega (arith, few, e, f)
 
 grown_below : (more : Bool) (n : ℕ) → n < largest → grown more n ≡ cond more (suc n) n
 unfolding grown

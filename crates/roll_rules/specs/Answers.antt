@@ -1,20 +1,29 @@
 -- What the services of the roll answer and leave, for every input.
 use Rattle.std.specs.Prelude.{ℕ, ◌+◌, min, Bool, false, cond, List, [], ◌∷◌, ◌++◌, map, reverse, eqb, leb, ltb, length, take, drop}
-use Rattle.std.specs.Prelude.{Option, None as none, Some as some}
+use Rattle.std.specs.Prelude.{Option, None as none, Some as some, Result, Ok, Err}
 use Rattle.plan.specs.Options.{◌else◌}
 use Rattle.kinds.specs.Limits.{Limits, standard}
 use Rattle.stored.specs.Counted.{AtFront, CUT, FRONT, largest}
-use Rattle.roll_rules.specs.declared.RollAnswer.{RollAnswer}
-use Rattle.roll_rules.specs.declared.RollAnswer.TheVariants.{Listed, Refused}
 use Rattle.roll_rules.specs.declared.RollNumbers.{RollNumbers}
 use Rattle.roll_rules.specs.declared.RollRefusal.{RollRefusal}
 use Rattle.roll_rules.specs.declared.Sums.{Sums}
 use Rattle.roll_format.specs.declared.EntryKind.TheVariants.{Filed, Done}
 use Rattle.roll_rules.specs.declared.RollRefusal.TheVariants.{TooLong, BadRoll, BadJob, BadText, AlreadyDone, Unfiled, Unfinished, NoRoom, MoreEntries}
-use Rattle.roll_rules.specs.declared.EntryAnswer.{EntryAnswer}
-use Rattle.roll_rules.specs.declared.EntryAnswer.TheVariants.{TooLong as EntryTooLong, NoEntry, Found as FoundEntry}
+use Rattle.roll_rules.specs.declared.FoundEntry.{FoundEntry}
+use Rattle.roll_rules.specs.declared.EntryRefusal.{EntryRefusal}
+use Rattle.roll_rules.specs.declared.EntryRefusal.TheVariants.{TooLong as EntryTooLong, NoEntry}
 use Rattle.roll_format.specs.Format.{Entry, Listing, entry, entry_bytes, longest, parts_of, roll, says}
 use Rattle.roll_rules.specs.Rules.{broken, counts_done, counts_filed, done, fault, filed}
+
+-- what reading a roll and adding to it answer, and what asking for one entry does
+abbrev pub RollAnswer : Type 0
+RollAnswer = Result Sums RollRefusal
+
+abbrev pub EntryAnswer : Type 0
+EntryAnswer = Result FoundEntry EntryRefusal
+
+abbrev pub found_entry : (job job_bytes text text_bytes : ℕ) → EntryAnswer
+found_entry job job_bytes text text_bytes = Ok (record { job = job; job_bytes = job_bytes; text = text; text_bytes = text_bytes })
 
 abbrev pub roll_refusal_number : RollRefusal → ℕ
 roll_refusal_number TooLong = 11
@@ -43,13 +52,13 @@ abbrev pub listed_number : ℕ
 listed_number = 3
 
 abbrev pub roll_numbers : RollAnswer → RollNumbers
-roll_numbers (Listed s) = record { number = listed_number; entries = s.entries; filed = s.filed; done = s.done; place = s.end }
-roll_numbers (Refused r) = record { number = roll_refusal_number r; entries = 0; filed = 0; done = 0; place = roll_refusal_place r }
+roll_numbers (Ok s) = record { number = listed_number; entries = s.entries; filed = s.filed; done = s.done; place = s.end }
+roll_numbers (Err r) = record { number = roll_refusal_number r; entries = 0; filed = 0; done = 0; place = roll_refusal_place r }
 
 abbrev pub entry_number : EntryAnswer → ℕ
-entry_number EntryTooLong = roll_refusal_number TooLong
-entry_number NoEntry = 39
-entry_number (FoundEntry job job_bytes text text_bytes) = listed_number
+entry_number (Err EntryTooLong) = roll_refusal_number TooLong
+entry_number (Err NoEntry) = 39
+entry_number (Ok found) = listed_number
 
 -- an edition of the roll: its first byte, and the limits of the plans in it
 pub record Edition : Type 0 where
@@ -80,7 +89,7 @@ abbrev pub sums : (es : List Entry) → (end : ℕ) → Sums
 sums es end = record { entries = length es; filed = filed es; done = done es; end = end }
 
 abbrev pub listed_as : (es : List Entry) → (end : ℕ) → RollAnswer
-listed_as es end = Listed (sums es end)
+listed_as es end = Ok (sums es end)
 
 -- Reading: the places go to the front of the list, and its other numbers are as they were; or the list is too short.
 pub record Read : Type 0 where
@@ -91,24 +100,24 @@ unfoldable pub places : List Entry → List ℕ
 places es = map (λ (e : Entry). e.place) es
 
 unfoldable pub fill : Judged → List ℕ → Read
-fill (REFUSED r) list = record { answer = Refused r; list = list }
+fill (REFUSED r) list = record { answer = Err r; list = list }
 fill (ENTRIES es end) list =
     cond (leb (length es) (length list)) (record { answer = listed_as (reverse es) end; list = places es ++ drop (length es) list })
-    (record { answer = Refused (MoreEntries (length es)); list = list })
+    (record { answer = Err (MoreEntries (length es)); list = list })
 
 unfoldable pub read_roll : Edition → (bytes list : List ℕ) → Read
 read_roll ed bytes list = fill (judged ed bytes) list
 
 -- One entry: where its job number and its text stand, and how long they are; nothing but its own bytes is looked at.
 unfoldable pub entry_told : (at : ℕ) → AtFront (List (List ℕ)) → EntryAnswer
-entry_told at CUT = NoEntry
-entry_told at (FRONT [] rest) = NoEntry
-entry_told at (FRONT (job ∷ []) rest) = FoundEntry (at + 8) (length job) 0 0
-entry_told at (FRONT (job ∷ text ∷ []) rest) = FoundEntry (at + 8) (length job) (at + 12 + length job) (length text)
-entry_told at (FRONT (a ∷ b ∷ c ∷ more) rest) = NoEntry
+entry_told at CUT = Err NoEntry
+entry_told at (FRONT [] rest) = Err NoEntry
+entry_told at (FRONT (job ∷ []) rest) = found_entry (at + 8) (length job) 0 0
+entry_told at (FRONT (job ∷ text ∷ []) rest) = found_entry (at + 8) (length job) (at + 12 + length job) (length text)
+entry_told at (FRONT (a ∷ b ∷ c ∷ more) rest) = Err NoEntry
 
 unfoldable pub one_entry : (bytes : List ℕ) → (at : ℕ) → EntryAnswer
-one_entry bytes at = cond (ltb longest (length bytes)) EntryTooLong (entry_told at (entry (drop at bytes)))
+one_entry bytes at = cond (ltb longest (length bytes)) (Err EntryTooLong) (entry_told at (entry (drop at bytes)))
 
 -- Adding: the new entry goes to the end. In a roll of no bytes it goes behind the first byte, which is put too.
 unfoldable pub new_bytes : Edition → (end : ℕ) → List (List ℕ) → List ℕ
@@ -125,7 +134,7 @@ pub record Added : Type 0 where
   pub more_done : Bool
 
 abbrev pub not_added : List ℕ → RollRefusal → Added
-not_added buffer r = record { answer = Refused r; buffer = buffer; more_filed = false; more_done = false }
+not_added buffer r = record { answer = Err r; buffer = buffer; more_filed = false; more_done = false }
 
 abbrev pub added_entry : Edition → (buffer : List ℕ) → (earlier : List Entry) → (end : ℕ) → (parts : List (List ℕ)) → Added
 added_entry ed buffer earlier end parts =

@@ -2,21 +2,19 @@
 // speak of the types here, so that a promise is one equation.
 #![tactic(auto)]
 
-ghost use Rattle.std.specs.Prelude.{◌≡◌, ◌<◌};
+ghost use Rattle.std.specs.Prelude.{◌≡◌, ◌<◌, Err};
 ghost use Rattle.stored.specs.Counted.{largest};
 ghost use Rattle.roll_rules.specs.Answers.{entry_number, grown, roll_numbers, roll_refusal_number, roll_refusal_place};
 ghost use Rattle.roll_rules.specs.EntriesBefore.{one_entry_more};
-
-use stored::LARGEST;
 
 // The most digits of a job number.
 pub const JOB_LIMIT: usize = 10;
 
 // The number of a roll that reads, of an entry that is added, and of one that is found.
-const LISTED: u32 = 3;
+pub const LISTED: u32 = 3;
 
 // Why a call over a roll is refused, with the place that goes with it.
-#[derive(Clone, Copy)]
+#[derive(Clone, Copy, PartialEq, Eq)]
 pub enum RollRefusal {
     TooLong,
     BadRoll(u32),
@@ -31,8 +29,9 @@ pub enum RollRefusal {
     MoreEntries(u32),
 }
 
-// What the entries of a roll come to: how many they are, the jobs filed and the jobs done by them, and where they end.
-#[derive(Clone, Copy)]
+// What the entries of a roll come to: how many they are, the jobs filed and the jobs done by them, and where they end. Reading a roll and
+// adding to it answer this, or a refusal.
+#[derive(Clone, Copy, PartialEq, Eq)]
 pub struct Sums {
     pub entries: u32,
     pub filed: u32,
@@ -40,15 +39,15 @@ pub struct Sums {
     pub end: u32,
 }
 
-// What reading a roll and adding to it answer. A refusal counts nothing.
-#[derive(Clone, Copy)]
-pub enum RollAnswer {
-    Listed(Sums),
-    Refused(RollRefusal),
+// What an entry adds to the tally: whether it counts as a job filed, or as a job done.
+#[derive(Clone, Copy, PartialEq, Eq)]
+pub struct Counts {
+    pub filed: bool,
+    pub done: bool,
 }
 
 // The five numbers of an answer about a roll.
-#[derive(Clone, Copy)]
+#[derive(Clone, Copy, PartialEq, Eq)]
 pub struct RollNumbers {
     pub number: u32,
     pub entries: u32,
@@ -57,21 +56,24 @@ pub struct RollNumbers {
     pub place: u32,
 }
 
-// What asking for one entry answers: where its job number and its text stand in the roll, and their bytes.
-#[derive(Clone, Copy)]
-pub enum EntryAnswer {
+// One entry: where its job number and its text stand in the roll, and their bytes.
+#[derive(Clone, Copy, PartialEq, Eq)]
+pub struct FoundEntry {
+    pub job: u32,
+    pub job_bytes: u32,
+    pub text: u32,
+    pub text_bytes: u32,
+}
+
+// Why asking for one entry is refused.
+#[derive(Clone, Copy, PartialEq, Eq)]
+pub enum EntryRefusal {
     TooLong,
     NoEntry,
-    Found {
-        job: u32,
-        job_bytes: u32,
-        text: u32,
-        text_bytes: u32,
-    },
 }
 
 // A running tally: jobs filed and jobs done.
-#[derive(Clone, Copy)]
+#[derive(Clone, Copy, PartialEq, Eq)]
 pub struct Tally {
     pub filed: u32,
     pub done: u32,
@@ -81,27 +83,32 @@ pub struct Tally {
 pub fn grown(count: u32, more: bool) -> u32
     ensures { result ≡ grown more count }
 {
-    if more {
-        if count < LARGEST {
-            return count + 1;
-        }
-        return count;
-    }
-    count
+    count.saturating_add(u32::from(more))
 }
 
 impl Sums {
-    // The sums with one entry more. It may count as a job filed or as a job done, and it ends at a
-    // place. Reading and adding count by this alone.
-    pub fn with_entry(self, filed: bool, done: bool, end: u32) -> Sums
+    // The sums with one entry more, which ends at a place. Reading and adding count by this alone.
+    pub fn with_entry(self, counts: Counts, end: u32) -> Sums
         requires { self.entries < largest }
-        ensures { result ≡ one_entry_more self filed done end }
+        ensures { result ≡ one_entry_more self counts.filed counts.done end }
     {
         Sums {
             entries: self.entries + 1,
-            filed: grown(self.filed, filed),
-            done: grown(self.done, done),
+            filed: grown(self.filed, counts.filed),
+            done: grown(self.done, counts.done),
             end,
+        }
+    }
+}
+
+impl Tally {
+    // The tally with one entry more.
+    pub fn with_entry(self, counts: Counts) -> Tally
+        ensures { (result.filed ≡ grown counts.filed self.filed) × (result.done ≡ grown counts.done self.done) }
+    {
+        Tally {
+            filed: grown(self.filed, counts.filed),
+            done: grown(self.done, counts.done),
         }
     }
 }
@@ -127,32 +134,32 @@ impl RollRefusal {
         ensures { result ≡ roll_refusal_place self }
     {
         match self {
-            RollRefusal::TooLong => 0,
-            RollRefusal::BadRoll(place) => place,
-            RollRefusal::BadJob => 0,
-            RollRefusal::BadText => 0,
-            RollRefusal::AlreadyDone(place) => place,
-            RollRefusal::Unfiled => 0,
-            RollRefusal::Unfinished(place) => place,
-            RollRefusal::NoRoom(bytes) => bytes,
-            RollRefusal::MoreEntries(entries) => entries,
+            RollRefusal::TooLong
+            | RollRefusal::BadJob
+            | RollRefusal::BadText
+            | RollRefusal::Unfiled => 0,
+            RollRefusal::BadRoll(place)
+            | RollRefusal::AlreadyDone(place)
+            | RollRefusal::Unfinished(place) => place,
+            RollRefusal::NoRoom(needed) | RollRefusal::MoreEntries(needed) => needed,
         }
     }
 }
 
-impl RollAnswer {
-    pub fn numbers(self) -> RollNumbers
-        ensures { result ≡ roll_numbers self }
-    {
-        match self {
-            RollAnswer::Listed(sums) => RollNumbers {
+// What reading a roll and adding to it answer is told by these. A refusal counts nothing.
+impl From<Result<Sums, RollRefusal>> for RollNumbers {
+    ghost from_gives = { λ r n. n ≡ roll_numbers r };
+
+    fn from(answer: Result<Sums, RollRefusal>) -> RollNumbers {
+        match answer {
+            Ok(sums) => RollNumbers {
                 number: LISTED,
                 entries: sums.entries,
                 filed: sums.filed,
                 done: sums.done,
                 place: sums.end,
             },
-            RollAnswer::Refused(refusal) => RollNumbers {
+            Err(refusal) => RollNumbers {
                 number: refusal.number(),
                 entries: 0,
                 filed: 0,
@@ -163,19 +170,13 @@ impl RollAnswer {
     }
 }
 
-impl EntryAnswer {
+impl EntryRefusal {
     pub fn number(self) -> u32
-        ensures { result ≡ entry_number self }
+        ensures { result ≡ entry_number (Err self) }
     {
         match self {
-            EntryAnswer::TooLong => RollRefusal::TooLong.number(),
-            EntryAnswer::NoEntry => 39,
-            EntryAnswer::Found {
-                job,
-                job_bytes,
-                text,
-                text_bytes,
-            } => LISTED,
+            EntryRefusal::TooLong => RollRefusal::TooLong.number(),
+            EntryRefusal::NoEntry => 39,
         }
     }
 }

@@ -12,7 +12,7 @@ ghost use Rattle.stored.specs.Spans.{SpanWithin, part};
 pub const NUMBER: usize = 4;
 
 // The largest number that is stored, and so the most bytes behind a count.
-pub const LARGEST: u32 = 4_294_967_295;
+pub const LARGEST: u32 = u32::MAX;
 
 // Bytes of a slice: where they begin, and how many they are.
 #[derive(Clone, Copy)]

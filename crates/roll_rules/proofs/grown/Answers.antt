@@ -1,16 +1,7 @@
--- `grown`: the three ways.
-use Rattle.std.proofs.Common.{refl, arith}
-use Rattle.roll_rules.specs.Answers.{grown}
+-- `grown`: one more or none, and no further than the largest number.
+use Rattle.std.proofs.Common.{arith}
+use Rattle.roll_rules.proofs.Growing.{grown_capped}
 use Rattle.roll_rules.proofs.grown.Goals as goal
 
-pub returns-then-count-lt-LARGEST : goal.returns-then-count-lt-LARGEST
-unfolding grown
-returns-then-count-lt-LARGEST c = rw c.if-more.true (omega arith)
-
-pub returns-then-more : goal.returns-then-more
-unfolding grown
-returns-then-more c = rw c.if-more.true (omega arith)
-
 pub returns : goal.returns
-unfolding grown
-returns c = rw c.if-more.false refl
+returns c = grown_capped c.args.more c.args.count (omega arith) c.from.ensures c.saturating_add.ensures
