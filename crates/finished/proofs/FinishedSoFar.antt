@@ -19,7 +19,7 @@ use Rattle.rules.specs.Rewriting.{finished}
 use Rattle.pieces.specs.declared.Piece.{Piece}
 use Rattle.pieces.specs.declared.Piece.TheVariants.{Operator, Token, Open, Close}
 use Rattle.items.specs.Walk.{Passed, ShowsAhead}
-use Rattle.items.proofs.Walking.{passed_ahead, passed_here}
+use Rattle.items.proofs.Walking.{passed_ahead}
 use Rattle.finished.specs.ShowsPlan.{ShowsPlan}
 use Rattle.finished.specs.AnyReady.{blocks_behind, any_ready}
 use Rattle.finished.proofs.AnyReady.{ready_unless-finished}
@@ -61,7 +61,7 @@ module _ {text : List ℕ} {at blocks : ℕ} {second : List Bool} {deep : ℕ} (
         → ((ps : List (PlanPiece ℕ)) (x : PlanPiece ℕ) → Like y x → Turned blocks second deep x ps blocks' second' deep')
         → FinishedSoFar text rest blocks' second' deep'
     turn e long turned =
-        let here = passed_here f.ahead passed in
+        let here = passed f.ahead.come f.ahead.shows in
         let t = turned here.later here.first (first-like e here) in
         record {
           ahead = passed_ahead f.ahead here;
@@ -97,7 +97,7 @@ module _ {text : List ℕ} {at blocks : ℕ} {second : List Bool} {deep : ℕ} (
       pub finished_deep : deep < cell_limit
       unfolding piece_labels
       finished_deep =
-          let here = passed_here f.ahead passed in
+          let here = passed f.ahead.come f.ahead.shows in
           let (l, is) = first-like e here in
           omega (arith, f.room, ap (λ ps. length (piece_labels ps)) (here.parts ∙ ap (◌∷ here.later) is))
 
@@ -109,7 +109,7 @@ module _ {text : List ℕ} {at blocks : ℕ} {second : List Bool} {deep : ℕ} (
       -- a plan's `]` ends an open block
       pub finished_within : (0 < deep) × (deep ≤ cell_limit)
       finished_within =
-          let here = passed_here f.ahead passed in
+          let here = passed f.ahead.come f.ahead.shows in
           (ends deep here.later (subst (Closes deep) (here.parts ∙ ap (◌∷ here.later) (first-like e here)) f.closes), omega (arith, f.room))
         where
           ends : (d : ℕ) (ps : List (PlanPiece ℕ)) → Closes d (END ∷ ps) → 0 < d

@@ -10,7 +10,7 @@ ghost use Rattle.plan.specs.Pieces.{Shows, pieces};
 ghost use Rattle.rules.specs.Rewriting.{finished};
 ghost use Rattle.finished.specs.ShowsPlan.{ShowsPlan};
 
-use items::{Cursor, NextPiece, next};
+use items::{Placed, Walk};
 use kinds::Cell;
 use pieces::Piece;
 
@@ -19,36 +19,30 @@ pub fn is_finished(text: &[u8]) -> bool
     requires { ShowsPlan text.now }
     ensures { (p : Plan ℕ) → Shows token_limit 0 text.now (pieces p) → result ≡ finished p }
 {
-    let mut cursor = Cursor { at: 0 };
     // The blocks right before the next piece, counted up to two: no operator takes more.
     let mut blocks: u32 = 0;
     // Of each open block, outermost first, whether it came right behind a block. A plan has no more open blocks than cells.
     let mut second = [false; Cell::LIMIT];
     let mut deep: usize = 0;
-    loop {
-        match next(text, cursor) {
-            NextPiece::End => return true,
-            NextPiece::Piece { piece, at, rest } => {
-                cursor = rest;
-                match piece {
-                    Piece::Operator(operator) => {
-                        if rules::takes(operator) <= blocks {
-                            return false;
-                        }
-                        blocks = 0;
-                    }
-                    Piece::Token(_) => blocks = 0,
-                    Piece::Open => {
-                        second[deep] = 0 < blocks;
-                        deep += 1;
-                        blocks = 0;
-                    }
-                    Piece::Close => {
-                        deep -= 1;
-                        blocks = if second[deep] { 2 } else { 1 };
-                    }
+    for Placed { piece, .. } in Walk::over(text) {
+        match piece {
+            Piece::Operator(operator) => {
+                if rules::takes(operator) <= blocks {
+                    return false;
                 }
+                blocks = 0;
+            }
+            Piece::Token(_) => blocks = 0,
+            Piece::Open => {
+                second[deep] = 0 < blocks;
+                deep += 1;
+                blocks = 0;
+            }
+            Piece::Close => {
+                deep -= 1;
+                blocks = if second[deep] { 2 } else { 1 };
             }
         }
     }
+    true
 }

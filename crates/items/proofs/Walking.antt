@@ -29,9 +29,13 @@ pub walk_begins : {text : List ℕ} {w over : Walk} → w ≡ over → (over.tex
 walk_begins e over = rw e over
 
 module _ {text : List ℕ} {w : Walk} {Kept : Type 0} (on : OnWalk text w Kept) where
-  -- the walk is over: no pieces come
-  pub walk_over : (ahead : ShowsAhead text w.at) → ((ps : List (PlanPiece ℕ)) → Shows token_limit w.at (drop w.at w.text.now) ps → ps ≡ []) → ahead.come ≡ []
-  walk_over ahead none = none ahead.come (rw on.same ahead.shows)
+  -- where the walk is over no pieces come, whatever pieces the text shows, and of those that are known to come
+  module _ (over : (ps : List (PlanPiece ℕ)) → Shows token_limit w.at (drop w.at w.text.now) ps → ps ≡ []) where
+    pub walk_none : (ps : List (PlanPiece ℕ)) → Shows token_limit w.at (drop w.at text) ps → ps ≡ []
+    walk_none = rw on.same at over
+
+    pub walk_over : (ahead : ShowsAhead text w.at) → ahead.come ≡ []
+    walk_over ahead = walk_none ahead.come ahead.shows
 
   module _ {text' : List ℕ} {k : CodePiece} {place rest : ℕ}
       (gives : (text' ≡ w.text.now) × ((ps : List (PlanPiece ℕ)) → Shows token_limit w.at (drop w.at w.text.now) ps → Passed w.text.now w.at k place rest ps)) where
@@ -39,6 +43,9 @@ module _ {text : List ℕ} {w : Walk} {Kept : Type 0} (on : OnWalk text w Kept) 
     pub walk_same : text' ≡ text
     walk_same = gives.0 ∙ on.same
 
-    -- the piece that the walk gave is the first of the pieces that are known to come
+    -- the piece that the walk gave, of whatever pieces the text shows, and of those that are known to come
+    pub walk_gave : (ps : List (PlanPiece ℕ)) → Shows token_limit w.at (drop w.at text) ps → Passed text w.at k place rest ps
+    walk_gave = rw on.same at gives.1
+
     pub walk_piece : (ahead : ShowsAhead text w.at) → Passed text w.at k place rest ahead.come
-    walk_piece ahead = rw on.same at (gives.1 ahead.come (rw on.same ahead.shows))
+    walk_piece ahead = walk_gave ahead.come ahead.shows

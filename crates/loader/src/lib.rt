@@ -9,7 +9,7 @@ ghost use Rattle.memory.specs.Held.{HeldAlike};
 ghost use Rattle.memory.specs.Model.{Lent, Aside};
 
 use builder::{end_plan, fresh, put_piece};
-use items::{Cursor, NextPiece, next};
+use items::{Placed, Walk};
 use kinds::Cell;
 use memory::Held;
 
@@ -21,14 +21,8 @@ pub fn build_plan(text: &[u8], memory: &mut [u32], outer: Cell) -> Held
     ensures aside { Aside outer.0 memory.old memory.new }
 {
     let mut build = fresh(memory, outer);
-    let mut cursor = Cursor { at: 0 };
-    loop {
-        match next(text, cursor) {
-            NextPiece::End => return end_plan(memory, build),
-            NextPiece::Piece { piece, at, rest } => {
-                build = put_piece(memory, build, piece);
-                cursor = rest;
-            }
-        }
+    for Placed { piece, .. } in Walk::over(text) {
+        build = put_piece(memory, build, piece);
     }
+    end_plan(memory, build)
 }

@@ -1,10 +1,7 @@
--- `build_plan`: the loop's invariant is `Onward`. The measure is what is left of the text.
-use Rattle.std.proofs.Common.{length, ◌-◌}
+-- `build_plan`: the loop's invariant is `Onward`.
+use Rattle.items.proofs.Walking.{OnWalk}
 use Rattle.loader.proofs.BuildLoop.{Onward}
 use Rattle.loader.proofs.build_plan.Given as goal
 
-abbrev pub invariant-loop-memory : goal.invariant-loop-memory
-invariant-loop-memory l = Onward l.text l.initial.memory l.initial.build l.memory l.build l.cursor.at
-
-abbrev pub decreases-loop-memory : goal.decreases-loop-memory
-decreases-loop-memory l = length l.text - l.cursor.at
+abbrev pub invariant-loop-piece : goal.invariant-loop-piece
+invariant-loop-piece l = OnWalk l.text l.piece-iterator (Onward l.text l.initial.memory l.initial.build l.memory l.build l.piece-iterator.at)
