@@ -1,6 +1,5 @@
 // A line written again, and behind it what was answered.
-ghost use Rattle.std.specs.Prelude.{◌≤◌, length};
-
+use crate::parts::Fields;
 use lending::untouched;
 use numbers::Numbers;
 use telling::{say, say_count, tell_five, warn_unless};
@@ -13,42 +12,35 @@ fn tell_short(rt: &(impl Print + Eprint), text: &[u8], count: usize, counted: &[
     if text.len() <= SHOWN {
         say(rt, text);
     } else {
-        say_count(rt, count as u64);
+        say_count(rt, count);
         say(rt, counted);
     }
 }
 
-// Writes a line again, without its end. The part between two places is told by a count if it is too long.
-pub fn echo(
-    rt: &(impl Print + Eprint),
-    line: &[u8],
-    from: usize,
-    to: usize,
-    count: usize,
-    counted: &[u8],
-)
-    requires { (from ≤ to) × (to ≤ length line.now) }
-{
-    say(rt, &line[0..from]);
-    tell_short(rt, &line[from..to], count, counted);
-    say(rt, &line[to..]);
+// Writes the line of a case again, without its end. The second field is told by a count if it is too long.
+pub fn echo(rt: &(impl Print + Eprint), fields: Fields, count: usize, counted: &[u8]) {
+    let bar = b" | ";
+    say(rt, fields.label);
+    say(rt, bar);
+    tell_short(rt, fields.second, count, counted);
+    say(rt, bar);
+    say(rt, fields.third);
+    say(rt, bar);
+    say(rt, fields.fourth);
 }
 
-// Behind a line: the five numbers and the printed text, which the output holds first.
-pub fn tell_answer(rt: &(impl Print + Eprint), numbers: Numbers, output: &[u8])
-    requires { numbers.length ≤ length output.now }
-{
-    let length = numbers.length as usize;
+// Behind a line: the five numbers and the printed text.
+pub fn tell_answer(rt: &(impl Print + Eprint), numbers: Numbers, printed: &[u8]) {
     say(rt, b" | ");
     warn_unless(rt, tell_five(rt, numbers));
     say(rt, b" | ");
-    tell_short(rt, &output[0..length], length, b" bytes");
+    tell_short(rt, printed, printed.len(), b" bytes");
     say(rt, b" | ");
 }
 
-// Ends a line: whether the output is as it was from a place on.
-pub fn tell_rest(rt: &(impl Print + Eprint), output: &[u8], from: usize) {
-    if untouched(output, from) {
+// Ends a line: whether what stands behind the printed text is as it was.
+pub fn tell_rest(rt: &(impl Print + Eprint), rest: &[u8]) {
+    if untouched(rest) {
         say(rt, b"rest untouched\n");
     } else {
         say(rt, b"rest CHANGED\n");

@@ -1,105 +1,49 @@
 // Numbers in decimal, and bytes in hex. What is not made of digits alone, or does not fit, is none.
-ghost use Rattle.std.specs.Prelude.{◌≤◌, length};
-
-#[derive(Clone, Copy)]
-pub enum Number {
-    Value(u32),
-    None,
-}
-
-// How many bytes were put, and whether all could be.
-#[derive(Clone, Copy)]
-pub struct Put {
-    pub bytes: usize,
-    pub all: bool,
-}
-
-#[derive(Clone, Copy)]
-enum Byte {
-    Value(u8),
-    None,
-}
+ghost use Rattle.std.specs.Prelude.{◌<◌, ◌≤◌, IfSome, length};
 
 // A number with one digit more behind it.
-fn with_digit(value: u32, digit: u8) -> Number {
-    if digit < b'0' {
-        return Number::None;
-    }
-    if b'9' < digit {
-        return Number::None;
-    }
-    let next = (value as u64) * 10 + ((digit - b'0') as u64);
-    if 4_294_967_295 < next {
-        return Number::None;
-    }
-    Number::Value(next as u32)
+fn with_digit(value: u32, digit: u8) -> Option<u32> {
+    let digit = char::from(digit).to_digit(10)?;
+    value.checked_mul(10)?.checked_add(digit)
 }
 
 // The number that digits stand for.
-pub fn number_of(digits: &[u8]) -> Number {
-    if digits.len() == 0 {
-        return Number::None;
+pub fn number_of(digits: &[u8]) -> Option<u32> {
+    if digits.is_empty() {
+        return None;
     }
-    let mut value = 0;
-    let mut at = 0;
-    while at < digits.len() {
-        let Number::Value(next) = with_digit(value, digits[at]) else {
-            return Number::None;
-        };
-        value = next;
-        at += 1;
-    }
-    Number::Value(value)
+    digits
+        .iter()
+        .try_fold(0, |value, digit| with_digit(value, *digit))
 }
 
-// The value of a hex digit; 16 for any other byte.
-fn hex_digit(byte: u8) -> u8
-    ensures { result ≤ 16 }
+// The value of a hex digit.
+fn hex_digit(byte: u8) -> Option<u8>
+    ensures { IfSome result (λ value. value < 16) }
 {
     match byte {
-        b'0'..=b'9' => byte - b'0',
-        b'a'..=b'f' => byte - b'a' + 10,
-        _ => 16,
+        b'0'..=b'9' => Some(byte - b'0'),
+        b'a'..=b'f' => Some(byte - b'a' + 10),
+        _ => None,
     }
 }
 
 // The byte that two hex digits stand for.
-fn byte_of(first: u8, second: u8) -> Byte {
-    let high = hex_digit(first);
-    let low = hex_digit(second);
-    if 15 < high {
-        return Byte::None;
-    }
-    if 15 < low {
-        return Byte::None;
-    }
-    Byte::Value(high * 16 + low)
+fn byte_of(high: u8, low: u8) -> Option<u8> {
+    Some(hex_digit(high)? * 16 + hex_digit(low)?)
 }
 
-// Puts the bytes of hex digits, two for each, to the front of the room, as far as they can be read and there is room.
-pub fn put_hex(digits: &[u8], room: &mut [u8]) -> Put
-    ensures { result.bytes ≤ length room.new }
+// Puts the bytes of hex digits, two for each, to the front of the room, and gives how many they are. None where not all can be read, or
+// where there is no room for all.
+pub fn put_hex(digits: &[u8], room: &mut [u8]) -> Option<usize>
+    ensures { IfSome result (λ bytes. bytes ≤ length room.new) }
 {
-    let whole = digits.len() / 2;
-    let mut put = 0;
-    while put < whole {
-        let Byte::Value(byte) = byte_of(digits[2 * put], digits[2 * put + 1]) else {
-            return Put {
-                bytes: put,
-                all: false,
-            };
-        };
-        if room.len() <= put {
-            return Put {
-                bytes: put,
-                all: false,
-            };
-        }
-        room[put] = byte;
-        put += 1;
+    let (pairs, odd) = digits.as_chunks::<2>();
+    if !odd.is_empty() || room.len() < pairs.len() {
+        return None;
     }
-    Put {
-        bytes: put,
-        all: digits.len() % 2 == 0,
+    for (byte, [high, low]) in room.iter_mut().zip(pairs) {
+        *byte = byte_of(*high, *low)?;
     }
+    Some(pairs.len())
 }

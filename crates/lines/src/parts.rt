@@ -1,68 +1,41 @@
-// Where a sign stands in a text, and the fields of a line, which the sign ` | ` parts.
-ghost use Rattle.std.specs.Prelude.{◌+◌, ◌≤◌, min, length};
+// A text cut at a sign, and the fields of a line, which the sign ` | ` parts.
+ghost use Rattle.std.specs.Prelude.{◌≡◌, ◌++◌, IfSome};
 
-// Where a sign begins, and the place behind it. Where there is none, both are the end of the text.
+// The fields of a line of a case. One that the line does not have is empty, and a fifth is part of the fourth, which is then no number.
 #[derive(Clone, Copy)]
-pub struct Sign {
-    pub at: usize,
-    pub past: usize,
+pub struct Fields<'a> {
+    pub label: &'a [u8],
+    pub second: &'a [u8],
+    pub third: &'a [u8],
+    pub fourth: &'a [u8],
 }
 
-// Where the second and the third field of a line begin and end, and where the fourth begins; it goes to the end of the line.
-#[derive(Clone, Copy)]
-pub struct Fields {
-    pub second: usize,
-    pub second_end: usize,
-    pub third: usize,
-    pub third_end: usize,
-    pub fourth: usize,
-}
-
-// The place behind a sign that begins at a place; the place itself if none begins there.
-pub fn past_sign(text: &[u8], at: usize, sign: &[u8]) -> usize
-    requires { at ≤ length text.now }
-    ensures { (at ≤ result) × (result ≤ length text.now) }
+// What stands before the first sign, and what stands behind it.
+pub fn split_once<'a>(text: &'a [u8], sign: &[u8]) -> Option<(&'a [u8], &'a [u8])>
+    ensures { IfSome result (λ cut. text.now ≡ cut.0.now ++ (sign.now ++ cut.1.now)) }
 {
-    if text.len() - at < sign.len() {
-        return at;
-    }
-    let end = at + sign.len();
-    if &text[at..end] == sign {
-        return end;
-    }
-    at
-}
-
-// The first sign from a place on.
-pub fn find_sign(text: &[u8], from: usize, sign: &[u8]) -> Sign
-    requires { from ≤ length text.now }
-    ensures from_le_at { (from ≤ result.at) × (result.at ≤ result.past) × (result.past ≤ length text.now) }
-    ensures text_bound { min (result.at + 1) (length text.now) ≤ result.past }
-{
-    let mut at = from;
-    while at < text.len() {
-        let past = past_sign(text, at, sign);
-        if at < past {
-            return Sign { at, past };
+    for at in 0..text.len() {
+        let (before, from) = text.split_at(at);
+        if let Some(behind) = from.strip_prefix(sign) {
+            return Some((before, behind));
         }
-        at += 1;
     }
-    Sign { at, past: at }
+    None
 }
 
-// A field that the line does not have is empty. A fifth is part of the fourth, which is then no number.
-pub fn fields_of(line: &[u8]) -> Fields
-    ensures { (result.second ≤ result.second_end) × (result.second_end ≤ result.third) × (result.third ≤ result.third_end) × (result.third_end ≤ result.fourth) × (result.fourth ≤ length line.now) }
-{
-    let bar = b" | ";
-    let first = find_sign(line, 0, bar);
-    let second = find_sign(line, first.past, bar);
-    let third = find_sign(line, second.past, bar);
+// A field, and what the line has behind it.
+fn field_and_rest(line: &[u8]) -> (&[u8], &[u8]) {
+    split_once(line, b" | ").unwrap_or((line, b""))
+}
+
+pub fn fields_of(line: &[u8]) -> Fields<'_> {
+    let (label, rest) = field_and_rest(line);
+    let (second, rest) = field_and_rest(rest);
+    let (third, fourth) = field_and_rest(rest);
     Fields {
-        second: first.past,
-        second_end: second.at,
-        third: second.past,
-        third_end: third.at,
-        fourth: third.past,
+        label,
+        second,
+        third,
+        fourth,
     }
 }
