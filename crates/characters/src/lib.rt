@@ -3,93 +3,57 @@
 
 ghost use Rattle.std.specs.Prelude.{◌≡◌, drop};
 ghost use Rattle.plan.specs.Token.{character, may_hold, value, well_formed};
-ghost use Rattle.characters.specs.Continued.{continued, Room};
+ghost use Rattle.characters.specs.Continued.{Room};
 
 use plan::Character;
 
-// The value of a character once the bytes that follow its first have been taken, if they are there.
-#[derive(Clone, Copy)]
-enum Continued {
-    Value(u32),
-    Missing,
-}
-
-// Takes `count` bytes 10xxxxxx from the place `from` on. Each adds six bits to the value, for which there is room.
-fn following(text: &[u8], from: usize, first: u32, count: u32) -> Continued
+// The value of a character once the `count` bytes 10xxxxxx that follow its first have been taken, if they are there. Each adds six bits to
+// the value, for which there is room.
+#[tactic(auto, unfolding(plan::specs::Token::value, plan::specs::Token::follows))]
+fn following(bytes: &[u8], first: u32, count: usize) -> Option<u32>
     requires { Room count first }
-    ensures { continued result ≡ value count first (drop from text.now) }
+    ensures { result ≡ value count first bytes.now }
 {
     let mut value = first;
-    let mut at = from;
-    let mut left = count;
-    while 0 < left {
-        if text.len() <= at {
-            return Continued::Missing;
-        }
-        let byte = text[at] as u32;
-        if byte < 0x80 {
-            return Continued::Missing;
-        }
-        if 0xC0 <= byte {
-            return Continued::Missing;
-        }
-        value = value * 64 + (byte - 0x80);
-        at += 1;
-        left -= 1;
+    for byte in bytes.get(..count)? {
+        let byte @ 0x80..=0xBF = *byte else {
+            return None;
+        };
+        value = value * 64 + (byte as u32 - 0x80);
     }
-    Continued::Value(value)
+    Some(value)
 }
 
 // A character of this width, unless its value is an overlong form, a surrogate, or past U+10FFFF.
-fn well_formed(width: u32, least: u32, following: Continued) -> Character
-    ensures { result ≡ well_formed width least (continued following) }
+#[tactic(auto, unfolding(plan::specs::Token::well_formed, plan::specs::Token::scalar))]
+fn well_formed(width: u32, least: u32, value: u32) -> Option<Character>
+    ensures { result ≡ well_formed width least (Some value) }
 {
-    let Continued::Value(value) = following else {
-        return Character::Malformed;
-    };
-    if value < least {
-        return Character::Malformed;
+    match value {
+        0..=0xD7FF | 0xE000..=0x10FFFF if least <= value => Some(Character { value, width }),
+        _ => None,
     }
-    if value < 0xD800 {
-        return Character::Whole { value, width };
-    }
-    if value <= 0xDFFF {
-        return Character::Malformed;
-    }
-    if 0x10FFFF < value {
-        return Character::Malformed;
-    }
-    Character::Whole { value, width }
 }
 
 // The character of UTF-8 that begins at a place; at the end of the text or past it there is none.
-pub fn character_at(text: &[u8], at: usize) -> Character
+#[tactic(auto, unfolding(plan::specs::Token::character, plan::specs::Token::well_formed))]
+pub fn character_at(text: &[u8], at: usize) -> Option<Character>
     ensures { result ≡ character (drop at text.now) }
 {
-    if text.len() <= at {
-        return Character::Malformed;
-    }
-    let first = text[at] as u32;
-    let next = at + 1;
-    if first < 0x80 {
-        return Character::Whole {
+    let [first, rest @ ..] = text.get(at..)? else {
+        return None;
+    };
+    let first = *first as u32;
+    match first {
+        0..=0x7F => Some(Character {
             value: first,
             width: 1,
-        };
+        }),
+        0xC0..=0xDF => well_formed(2, 0x80, following(rest, first - 0xC0, 1)?),
+        0xE0..=0xEF => well_formed(3, 0x800, following(rest, first - 0xE0, 2)?),
+        0xF0..=0xF7 => well_formed(4, 0x10000, following(rest, first - 0xF0, 3)?),
+        _ => None,
     }
-    if first < 0xC0 {
-        return Character::Malformed;
-    }
-    if first < 0xE0 {
-        return well_formed(2, 0x80, following(text, next, first - 0xC0, 1));
-    }
-    if first < 0xF0 {
-        return well_formed(3, 0x800, following(text, next, first - 0xE0, 2));
-    }
-    if first < 0xF8 {
-        return well_formed(4, 0x10000, following(text, next, first - 0xF0, 3));
-    }
-    Character::Malformed
 }
 
 // The characters that open and close a token.
@@ -98,26 +62,9 @@ pub const OPEN_BRACE: u32 = 0x7B;
 const CLOSE_BRACE: u32 = 0x7D;
 
 // Whether a token may hold the character of this value: no brace, no control character, no U+FFFD.
+#[tactic(auto, unfolding(plan::specs::Token::may_hold))]
 pub fn may_hold(value: u32) -> bool
     ensures { result ≡ may_hold value }
 {
-    if value == OPEN_BRACE {
-        return false;
-    }
-    if value == CLOSE_BRACE {
-        return false;
-    }
-    if value < 0x20 {
-        return false;
-    }
-    if value < 0x7F {
-        return true;
-    }
-    if value <= 0x9F {
-        return false;
-    }
-    if value == 0xFFFD {
-        return false;
-    }
-    true
+    !matches!(value, OPEN_BRACE | CLOSE_BRACE | 0..=0x1F | 0x7F..=0x9F | 0xFFFD)
 }
