@@ -6,6 +6,7 @@ use native.Mathlib.Omega.{arith}
 use lib.ListN.{length, take, drop, length-drop}
 use lib.Seq.{drop-drop}
 use Rattle.kinds.proofs.Tests.{never}
+use Rattle.std.specs.Prelude.{Option, Some, None}
 use Rattle.stored.specs.Counted.{AtFront, CUT, FRONT, number}
 use Rattle.stored.specs.Spans.{SpanWithin, part}
 use Rattle.stored.specs.declared.Span.{Span}
@@ -15,7 +16,7 @@ use Rattle.roll_format.specs.Format.{NEITHER, entry, parts_of, says, sections}
 use Rattle.roll_format.specs.declared.EntryKind.{EntryKind}
 use Rattle.roll_format.proofs.Format.{section_parts, sections_many}
 use Rattle.roll_entries.specs.declared.EntryAt.{EntryAt}
-use Rattle.roll_entries.specs.declared.EntryAt.TheVariants.{Torn, Known, Other}
+use Rattle.roll_entries.specs.declared.EntryAt.TheVariants.{Known, Other}
 use Rattle.roll_entries.specs.Entries.{EntryWithin, entry_at, next_told, parts_told, says_told}
 
 -- an entry of one of the two kinds
@@ -34,10 +35,10 @@ pub record OtherAt (bytes : List ℕ) (at next : ℕ) : Type 0 where
   pub whole : entry (drop at bytes) ≡ FRONT parts rest
   pub there : next ≡ length bytes - length rest
 
-abbrev pub EntryFound : (bytes : List ℕ) → (at : ℕ) → EntryAt → Type 0
-EntryFound bytes at Torn = entry (drop at bytes) ≡ CUT
-EntryFound bytes at (Other next) = OtherAt bytes at next
-EntryFound bytes at (Known kind job text next) = KnownAt bytes at kind job text next
+abbrev pub EntryFound : (bytes : List ℕ) → (at : ℕ) → Option EntryAt → Type 0
+EntryFound bytes at None = entry (drop at bytes) ≡ CUT
+EntryFound bytes at (Some (Other next)) = OtherAt bytes at next
+EntryFound bytes at (Some (Known kind job text next)) = KnownAt bytes at kind job text next
 
 module _ (bytes : List ℕ) (at : ℕ) where
   -- the sections of an entry, the first of which stands behind its number
@@ -58,7 +59,7 @@ module _ (bytes : List ℕ) (at : ℕ) where
       let (fits, is, left) = counted-there bytes from (one ∙ ap (λ z. FRONT z between) same) in
       (fits, sym is, ap (sections k) (sym left) ∙ two ∙ ap (λ z. FRONT z rest) others)
 
-  found_by : {x : EntryAt} → entry_at bytes at ≡ x → EntryFound bytes at x → EntryFound bytes at (entry_at bytes at)
+  found_by : {x : Option EntryAt} → entry_at bytes at ≡ x → EntryFound bytes at x → EntryFound bytes at (entry_at bytes at)
   found_by e h = subst (EntryFound bytes at) (sym e) h
 
   pub entry_found : EntryFound bytes at (entry_at bytes at)
@@ -95,26 +96,26 @@ pub record Tells (bytes : List ℕ) (at : ℕ) (parts : List (List ℕ)) (next :
 pub entry_tells : (bytes : List ℕ) (at next : ℕ) → next ≤ length bytes → (parts : List (List ℕ)) → entry (drop at bytes) ≡ FRONT parts (drop next bytes) → Tells bytes at parts next
 entry_tells bytes at next within parts e = go (entry_at bytes at) refl (entry_found bytes at)
   where
-    by : (x : EntryAt) → entry_at bytes at ≡ x → says_told bytes x ≡ says parts → EntryWithin bytes x → ((end : ℕ) → next_told x end ≡ next) → Tells bytes at parts next
+    by : (x : Option EntryAt) → entry_at bytes at ≡ x → says_told bytes x ≡ says parts → EntryWithin bytes x → ((end : ℕ) → next_told x end ≡ next) → Tells bytes at parts next
     by x is t w b =
         record {
           tells = ap (says_told bytes) is ∙ t;
           within = subst (EntryWithin bytes) (sym is) w;
-          behind = λ end. ap (λ (y : EntryAt). next_told y end) is ∙ b end;
+          behind = λ end. ap (λ (y : Option EntryAt). next_told y end) is ∙ b end;
         }
 
     there : {rest : List ℕ} → drop next bytes ≡ rest → length bytes - length rest ≡ next
     there left = omega (arith, ap length left, length-drop next bytes)
 
-    go : (x : EntryAt) → entry_at bytes at ≡ x → EntryFound bytes at x → Tells bytes at parts next
-    go Torn is f = never (let z : FRONT parts (drop next bytes) ≡ CUT = sym e ∙ f in cc)
-    go (Other n) is f =
+    go : (x : Option EntryAt) → entry_at bytes at ≡ x → EntryFound bytes at x → Tells bytes at parts next
+    go None is f = never (let z : FRONT parts (drop next bytes) ≡ CUT = sym e ∙ f in cc)
+    go (Some (Other n)) is f =
         let front : FRONT parts (drop next bytes) ≡ FRONT f.parts f.rest = sym e ∙ f.whole in
         let same : parts ≡ f.parts = cc in
         let left : drop next bytes ≡ f.rest = cc in
-        by (Other n) is (sym (ap says same ∙ f.neither)) tt (λ end. f.there ∙ there left)
-    go (Known kind job text n) is f =
+        by (Some (Other n)) is (sym (ap says same ∙ f.neither)) tt (λ end. f.there ∙ there left)
+    go (Some (Known kind job text n)) is f =
         let front : FRONT parts (drop next bytes) ≡ FRONT (parts_of kind (part bytes job) (part bytes text)) f.rest = sym e ∙ f.whole in
         let same : parts ≡ parts_of kind (part bytes job) (part bytes text) = cc in
         let left : drop next bytes ≡ f.rest = cc in
-        by (Known kind job text n) is (ap says (sym same)) (f.job_within, f.text_within) (λ end. f.there ∙ there left)
+        by (Some (Known kind job text n)) is (ap says (sym same)) (f.job_within, f.text_within) (λ end. f.there ∙ there left)

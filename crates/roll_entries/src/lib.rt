@@ -1,18 +1,16 @@
 // The entry at a place of a roll: what it is and where the next one would stand, or that it is torn.
 #![tactic(auto)]
 
-ghost use Rattle.std.specs.Prelude.{◌≡◌, ◌≤◌, length, drop};
+ghost use Rattle.std.specs.Prelude.{◌≡◌, ◌≤◌, Some, length, drop};
 ghost use Rattle.roll_format.specs.Format.{sections};
 ghost use Rattle.roll_entries.specs.Entries.{done_at, entry_at, filed_at, next_told, other_at, sections_end_told};
 
 use roll_format::EntryKind;
-use stored::{
-    CountedAt, NUMBER, NumberAt, Span, TwoCountedAt, counted_at, number_at, two_counted_at,
-};
+use stored::{NUMBER, Span, counted_at, number_at, two_counted_at};
 
-#[derive(Clone, Copy)]
+// A whole entry, of one of the two kinds or of neither, and where the next one would stand.
+#[derive(Clone, Copy, PartialEq, Eq)]
 pub enum EntryAt {
-    Torn,
     // Where its job number and its text stand. A DONE has no text, so its text is the span of no bytes.
     Known {
         kind: EntryKind,
@@ -25,100 +23,83 @@ pub enum EntryAt {
     },
 }
 
-// Where sections end.
-#[derive(Clone, Copy)]
-pub enum SectionsEnd {
-    Torn,
-    At(usize),
-}
-
-// Goes past so many sections.
-fn pass_sections(roll: &[u8], from: usize, count: u32) -> SectionsEnd
+// Where so many sections end, which begin at a place; or one of them is torn.
+fn pass_sections(roll: &[u8], from: usize, count: u32) -> Option<usize>
     requires { from ≤ length roll.now }
     ensures { result ≡ sections_end_told roll.now (sections count (drop from roll.now)) }
 {
     let mut at = from;
-    let mut left = count;
-    while 0 < left {
-        match counted_at(roll, at) {
-            CountedAt::Cut => return SectionsEnd::Torn,
-            CountedAt::Whole(section) => {
-                at = section.at + section.len;
-                left -= 1;
-            }
-        }
+    for _ in 0..count {
+        let section = counted_at(roll, at)?;
+        at = section.end();
     }
-    SectionsEnd::At(at)
+    Some(at)
 }
 
 // The one section of a DONE.
-fn done_at(roll: &[u8], at: usize) -> EntryAt
+fn done_at(roll: &[u8], at: usize) -> Option<EntryAt>
     ensures { result ≡ done_at roll.now at }
 {
-    match counted_at(roll, at) {
-        CountedAt::Cut => EntryAt::Torn,
-        CountedAt::Whole(job) => EntryAt::Known {
-            kind: EntryKind::Done,
-            job,
-            text: Span { at: 0, len: 0 },
-            next: job.at + job.len,
-        },
-    }
+    let job = counted_at(roll, at)?;
+    Some(EntryAt::Known {
+        kind: EntryKind::Done,
+        job,
+        text: Span { at: 0, len: 0 },
+        next: job.end(),
+    })
 }
 
 // The two sections of a FILED.
-fn filed_at(roll: &[u8], at: usize) -> EntryAt
+fn filed_at(roll: &[u8], at: usize) -> Option<EntryAt>
     ensures { result ≡ filed_at roll.now at }
 {
-    match two_counted_at(roll, at) {
-        TwoCountedAt::Cut => EntryAt::Torn,
-        TwoCountedAt::Both {
-            first: job,
-            second: text,
-        } => EntryAt::Known {
-            kind: EntryKind::Filed,
-            job,
-            text,
-            next: text.at + text.len,
-        },
-    }
+    let (job, text) = two_counted_at(roll, at)?;
+    Some(EntryAt::Known {
+        kind: EntryKind::Filed,
+        job,
+        text,
+        next: text.end(),
+    })
 }
 
-fn other_at(roll: &[u8], at: usize, count: u32) -> EntryAt
+fn other_at(roll: &[u8], at: usize, count: u32) -> Option<EntryAt>
     requires { at ≤ length roll.now }
     ensures { result ≡ other_at roll.now at count }
 {
-    match pass_sections(roll, at, count) {
-        SectionsEnd::Torn => EntryAt::Torn,
-        SectionsEnd::At(next) => EntryAt::Other { next },
-    }
+    let next = pass_sections(roll, at, count)?;
+    Some(EntryAt::Other { next })
 }
 
-pub fn entry_at(roll: &[u8], at: usize) -> EntryAt
+// The entry at a place, or that it is torn.
+pub fn entry_at(roll: &[u8], at: usize) -> Option<EntryAt>
     ensures { result ≡ entry_at roll.now at }
 {
-    let NumberAt::Whole(count) = number_at(roll, at) else {
-        return EntryAt::Torn;
-    };
+    let count = number_at(roll, at)?;
+    let from = at + NUMBER;
     match count {
-        1 => done_at(roll, at + NUMBER),
-        2 => filed_at(roll, at + NUMBER),
-        _ => other_at(roll, at + NUMBER, count),
+        1 => done_at(roll, from),
+        2 => filed_at(roll, from),
+        _ => other_at(roll, from, count),
     }
 }
 
-// Where the entry behind this one would stand.
-pub fn next_of(entry: EntryAt, end: usize) -> usize
+impl EntryAt {
+    // Where the entry behind this one would stand.
+    fn next(self) -> usize
+        ensures { result ≡ next_told (Some self) 0 }
+    {
+        match self {
+            EntryAt::Known { next, .. } | EntryAt::Other { next } => next,
+        }
+    }
+}
+
+// Where the entry behind this one would stand; behind a torn one there is none before the end.
+pub fn next_of(entry: Option<EntryAt>, end: usize) -> usize
     ensures { result ≡ next_told entry end }
 {
     match entry {
-        EntryAt::Torn => end,
-        EntryAt::Other { next } => next,
-        EntryAt::Known {
-            kind,
-            job,
-            text,
-            next,
-        } => next,
+        Some(entry) => entry.next(),
+        None => end,
     }
 }

@@ -15,7 +15,7 @@ pub const NUMBER: usize = 4;
 pub const LARGEST: u32 = u32::MAX;
 
 // Bytes of a slice: where they begin, and how many they are.
-#[derive(Clone, Copy)]
+#[derive(Clone, Copy, PartialEq, Eq)]
 pub struct Span {
     pub at: usize,
     pub len: usize,

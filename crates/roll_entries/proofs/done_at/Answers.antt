@@ -1,14 +1,18 @@
 -- `done_at`: the section is torn, or whole.
-use Rattle.std.proofs.Common.{rules, sym, ◌∙◌}
+use Rattle.std.proofs.Common.{rules, ap, sym, ◌∙◌}
+use Rattle.std.specs.Prelude.{Some}
+use Rattle.stored.specs.Spans.{span}
 use Rattle.stored.proofs.Places.{counted_found}
+use Rattle.roll_format.specs.declared.EntryKind.TheVariants.{Done}
+use Rattle.roll_entries.specs.declared.EntryAt.TheVariants.{Known}
 use Rattle.roll_entries.proofs.Told.{done_torn, done-whole}
 use Rattle.roll_entries.proofs.done_at.Goals as goal
 
-pub overflow_add-result : goal.overflow_add-result
-overflow_add-result c = let within = (counted_found c.args.roll.now c.args.at (sym c.counted_at.ensures ∙ c.in-Whole.is)).within in search rules
+pub returns-in_err-job : goal.returns-in_err-job
+returns-in_err-job c = c.from_residual.ensures ∙ done_torn _ _ (sym c.in_err-job.ensures)
 
-pub returns-in-Cut : goal.returns-in-Cut
-returns-in-Cut c = done_torn _ _ (sym c.counted_at.ensures ∙ c.in-Cut.is)
+pub end-requires : goal.end-requires
+end-requires c = let within = (counted_found c.args.roll.now c.args.at (sym c.in_ok-job.ensures)).within in search rules
 
-pub returns-in-Whole : goal.returns-in-Whole
-returns-in-Whole c = done-whole _ _ (sym c.counted_at.ensures ∙ c.in-Whole.is)
+pub returns : goal.returns
+returns c = ap (λ n. Some (Known Done c.in_ok-job.job (span 0 0) n)) c.end.ensures ∙ done-whole _ _ (sym c.in_ok-job.ensures)

@@ -3,8 +3,8 @@ use Rattle.std.proofs.Common.{sym, ◌∙◌}
 use Rattle.roll_entries.proofs.Told.{other_torn, other_whole}
 use Rattle.roll_entries.proofs.other_at.Goals as goal
 
-pub returns-in-Torn : goal.returns-in-Torn
-returns-in-Torn c = other_torn _ _ _ (sym c.pass_sections.ensures ∙ c.in-Torn.is)
+pub returns-in_err-next : goal.returns-in_err-next
+returns-in_err-next c = c.from_residual.ensures ∙ other_torn _ _ _ (sym c.in_err-next.ensures)
 
-pub returns-in-At : goal.returns-in-At
-returns-in-At c = other_whole _ _ _ (sym c.pass_sections.ensures ∙ c.in-At.is)
+pub returns : goal.returns
+returns c = other_whole _ _ _ (sym c.in_ok-next.ensures)
