@@ -47,8 +47,8 @@ pub record HowRan : Type 0 where
   pub ending : Ending
   pub steps : ℕ
 
-abbrev pub run_family : Family RunRefusal HowRan RunAnswer
-run_family = record { refused = Err; out_short = OutShort; given = λ how cells length. Ok (ran how.ending how.steps cells length) }
+abbrev pub run_family : Family RunRefusal HowRan Ran
+run_family = record { out_short = OutShort; given = λ how cells length. ran how.ending how.steps cells length }
 
 unfoldable pub as_run : {L : Type 0} → Run L → Outcome RunRefusal HowRan
 as_run (RAN e steps p) = GIVES (record { ending = e; steps = steps }) (cells p) (print p)

@@ -7,14 +7,15 @@ use native.Mathlib.Omega.{arith}
 use lib.ListN.{length}
 use Rattle.plan.specs.declared.Unread.{Unread}
 use Rattle.plan.specs.declared.Unread.TheVariants.{Text, Overfull}
+use Rattle.std.specs.Prelude.{Err, Ok, Result}
 use Rattle.plan.specs.Outcomes.{Family, GIVES, Outcome, REFUSES, Wrote, write}
 use Rattle.plan.proofs.Outcomes.{write_gives}
 use Rattle.numbers.specs.declared.Numbers.{Numbers}
 use Rattle.numbers.specs.Numbers.{unread_numbers}
 
-module _ {R G A : Type 0} (f : Family R G A) (numbers : A → Numbers) (none : (r : R) → (numbers (f.refused r)).length ≡ 0)
-    (all : (g : G) (cells long : ℕ) → (numbers (f.given g cells long)).length ≡ long) where
-  pub printed-fits : {o : Outcome R G} {out : List ℕ} {r : A} {out' : List ℕ} → Wrote f o out r out' → (numbers r).length ≤ length out
+module _ {R G T : Type 0} (f : Family R G T) (numbers : Result T R → Numbers) (none : (r : R) → (numbers (Err r)).length ≡ 0)
+    (all : (g : G) (cells long : ℕ) → (numbers (Ok (f.given g cells long))).length ≡ long) where
+  pub printed-fits : {o : Outcome R G} {out : List ℕ} {r : Result T R} {out' : List ℕ} → Wrote f o out r out' → (numbers r).length ≤ length out
   unfolding write
   printed-fits {o} {out} call = rw call.answer (by_outcome o)
     where

@@ -1,17 +1,16 @@
 -- One way to answer, for every service that writes a text: a refusal, or a text with what goes with it; and what the output lent then
--- holds. A family of services has refusals of type R, tells a G beside a text, and has answers of type A.
-use Rattle.std.specs.Prelude.{ℕ, ◌≡◌, Bool, true, false, cond, List, ◌++◌, length, drop, replicate, leb}
+-- holds. A family of services has refusals of type R, tells a G beside a text, and gives a T: it answers a T or a refusal.
+use Rattle.std.specs.Prelude.{ℕ, ◌≡◌, Bool, true, false, cond, List, ◌++◌, length, drop, replicate, leb, Result, Ok, Err}
 
 -- before the output is looked at: a refusal; or the text that is given, the cells of its plan, and what else is told
 pub data Outcome (R G : Type 0) : Type 0 where
   REFUSES : R → Outcome R G
   GIVES : G → (cells : ℕ) → (text : List ℕ) → Outcome R G
 
--- how a family answers a refusal, its OUTSHORT with the bytes needed, and a text
-pub record Family (R G A : Type 0) : Type 0 where
-  pub refused : R → A
+-- a family's OUTSHORT, with the bytes needed, and what it gives for a text
+pub record Family (R G T : Type 0) : Type 0 where
   pub out_short : (needed : ℕ) → R
-  pub given : G → (cells length : ℕ) → A
+  pub given : G → (cells length : ℕ) → T
 
 -- what a call answers, and what the output lent to it then holds
 pub record Written (A : Type 0) : Type 0 where
@@ -19,14 +18,14 @@ pub record Written (A : Type 0) : Type 0 where
   pub output : List ℕ
 
 -- the text first and the other bytes as they were; or 18, and every byte as it was
-unfoldable pub write : {R G A : Type 0} → Family R G A → Outcome R G → List ℕ → Written A
-write f (REFUSES r) out = record { answer = f.refused r; output = out }
+unfoldable pub write : {R G T : Type 0} → Family R G T → Outcome R G → List ℕ → Written (Result T R)
+write f (REFUSES r) out = record { answer = Err r; output = out }
 write f (GIVES g cells text) out =
-    cond (leb (length text) (length out)) (record { answer = f.given g cells (length text); output = text ++ drop (length text) out })
-    (record { answer = f.refused (f.out_short (length text)); output = out })
+    cond (leb (length text) (length out)) (record { answer = Ok (f.given g cells (length text)); output = text ++ drop (length text) out })
+    (record { answer = Err (f.out_short (length text)); output = out })
 
 -- what a call did with the output out, which it was lent: its answer r and the bytes out' that it left are those of this outcome
-pub record Wrote {R G A : Type 0} (f : Family R G A) (o : Outcome R G) (out : List ℕ) (r : A) (out' : List ℕ) : Type 0 where
+pub record Wrote {R G T : Type 0} (f : Family R G T) (o : Outcome R G) (out : List ℕ) (r : Result T R) (out' : List ℕ) : Type 0 where
   pub answer : r ≡ (write f o out).answer
   pub output : out' ≡ (write f o out).output
 

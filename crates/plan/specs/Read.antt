@@ -1,6 +1,6 @@
 -- What READ answers and what it leaves, for every input. READ is CHECK and TIDY of document 01: request 4 of document 02 makes
 -- them one. And which texts are acceptable.
-use Rattle.std.specs.Prelude.{ℕ, Bool, List, Result, Ok, Err}
+use Rattle.std.specs.Prelude.{ℕ, Bool, List, Result}
 use Rattle.kinds.specs.Limits.{Limits}
 use Rattle.plan.specs.declared.ReadRefusal.{ReadRefusal}
 use Rattle.plan.specs.declared.ReadRefusal.TheVariants.{NotRead, OutShort}
@@ -16,8 +16,8 @@ ReadAnswer = Result Size ReadRefusal
 abbrev pub sized : (cells length : ℕ) → Size
 sized cells length = record { cells = cells; length = length }
 
-abbrev pub read_family : Family ReadRefusal (Unit {0}) ReadAnswer
-read_family = record { refused = Err; out_short = OutShort; given = λ u cells length. Ok (sized cells length) }
+abbrev pub read_family : Family ReadRefusal (Unit {0}) Size
+read_family = record { out_short = OutShort; given = λ u cells length. sized cells length }
 
 unfoldable pub as_read : Acceptance → Outcome ReadRefusal (Unit {0})
 as_read (UNREAD u) = REFUSES (NotRead u)

@@ -27,8 +27,8 @@ abbrev pub link_numbers : LinkAnswer → Numbers
 link_numbers (Ok s) = given_numbers s.cells s.length
 link_numbers (Err r) = link_refusal_numbers r
 
-abbrev pub link_family : Family LinkRefusal (Unit {0}) LinkAnswer
-link_family = record { refused = Err; out_short = OutShort; given = λ u cells length. Ok (sized cells length) }
+abbrev pub link_family : Family LinkRefusal (Unit {0}) Size
+link_family = record { out_short = OutShort; given = λ u cells length. sized cells length }
 
 -- A linked plan, where it is not too large. One that is too large is refused without a place, since it stands in no text yet.
 unfoldable pub linked_within : Limits → Plan ℕ → Outcome LinkRefusal (Unit {0})
