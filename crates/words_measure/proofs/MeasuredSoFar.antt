@@ -1,84 +1,79 @@
 -- A turn of the walk that measures a text: what was put so far is measured, and all that is remembered is right.
-use Prim.Native.Nat.{ℕ, ◌+◌, ◌*◌, ◌<◌}
+use Prim.Native.Nat.{ℕ, ◌<◌}
 use mathlib.Core.Path.{◌≡◌, refl, ap, ap₂, sym, ◌∙◌}
-use mathlib.Core.List.{List, [], ◌++◌}
-use native.Mathlib.Omega.{arith}
-use lib.ListN.{length}
+use mathlib.Core.List.{List, [], ◌∷◌, ◌++◌}
+use lib.ListN.{length, set}
+use Rattle.std.specs.Prelude.{Option, Some, None}
 use Rattle.plan.specs.Pieces.{Piece, pieces}
+use Rattle.plan.specs.declared.Size.{Size}
+use Rattle.pieces.specs.Written.{Is}
 use Rattle.pieces.specs.declared.Piece.{Piece as CodePiece}
 use Rattle.items.specs.Walk.{Passed}
 use Rattle.words_meaning.specs.Places.{gives_way_to}
-use Rattle.words_shelf.specs.Notes.{noted, with_note}
-use Rattle.words_shelf.specs.Shelf.{linked_text, linked_word, stands_to, word_of}
-use Rattle.words_shelf.proofs.Noting.{noted_long, noted-right}
-use Rattle.words_shelf.proofs.StandsFor.{LinkedSoFar, linked_first, linked_on, shelved_below}
-use Rattle.words_measure.specs.declared.Size.{Size}
-use Rattle.words_measure.specs.Sizes.{CanMeasure, CanMeasureWord, SizesKnown, plus, size, size_of}
+use Rattle.words_shelf.specs.Shelf.{Readable, linked_text, linked_word, seek_piece, stands_to}
+use Rattle.words_shelf.specs.Words.{word_of}
+use Rattle.words_shelf.specs.declared.WordAt.{WordAt}
+use Rattle.words_shelf.proofs.Noting.{noted-right}
+use Rattle.words_shelf.proofs.StandsFor.{LinkedSoFar, linked_first, linked_on, piece-listed, piece_unlisted}
+use Rattle.words_measure.specs.Sizes.{SizesKnown, plus, size, size_of}
 use Rattle.words_measure.proofs.Measuring.{size_append, size_nothing, size-pieces}
 
-pub record MeasuredSoFar (list spans text : List ℕ) (n : ℕ) (notes₀ notes : List ℕ) (sum : Size) (at : ℕ) : Type 0 where
+pub record MeasuredSoFar (list : List ℕ) (words : List WordAt) (text : List ℕ) (n : ℕ) (sizes : List (Option Size)) (sum : Size) (at : ℕ) : Type 0 where
   pub gone : List (Piece ℕ)
-  pub so_far : LinkedSoFar list spans text n at gone
+  pub so_far : LinkedSoFar list words text n at gone
   pub right : sum ≡ size_of gone
-  pub can : CanMeasure list spans text n notes
-  pub same : length notes ≡ length notes₀
+  pub known : SizesKnown list words sizes
 
-pub measured_first : {list spans text : List ℕ} {n : ℕ} {notes : List ℕ} → CanMeasure list spans text n notes
-    → MeasuredSoFar list spans text n notes notes (record { cells = 0; length = 0 }) 0
-measured_first {list} {spans} {n = n} can =
-    record { gone = []; so_far = linked_first list spans n can.readable; right = sym size_nothing; can = can; same = refl }
+pub measured_first : (list : List ℕ) (words : List WordAt) {text : List ℕ} (n : ℕ) {sizes : List (Option Size)} → Readable text → SizesKnown list words sizes
+    → MeasuredSoFar list words text n sizes (record { cells = 0; length = 0 }) 0
+measured_first list words n reads known =
+    record { gone = []; so_far = linked_first list words n reads; right = sym size_nothing; known = known }
 
-module _ {list spans text : List ℕ} {n : ℕ} {notes₀ notes : List ℕ} {sum : Size} {at : ℕ} (inv : MeasuredSoFar list spans text n notes₀ notes sum at) where
-  pub measured_last : pieces (linked_text list spans n text) ≡ inv.gone → sum ≡ size (linked_text list spans n text)
-  measured_last over = inv.right ∙ ap size_of (sym over) ∙ sym (size-pieces (linked_text list spans n text))
+module _ {list : List ℕ} {words : List WordAt} {text : List ℕ} {n : ℕ} {sizes : List (Option Size)} {sum : Size} {at : ℕ}
+    (inv : MeasuredSoFar list words text n sizes sum at) where
+  pub measured_last : pieces (linked_text list words n text) ≡ inv.gone → sum ≡ size (linked_text list words n text)
+  measured_last over = inv.right ∙ ap size_of (sym over) ∙ sym (size-pieces (linked_text list words n text))
 
-  -- a word below the rank can be measured
-  pub measured_lower : {r : ℕ} → r < n → CanMeasureWord list spans r notes
-  measured_lower {r} l =
-      record {
-        kept = inv.can.shelved.kept r l;
-        can =
-            record {
-              shelved = shelved_below (omega arith) inv.can.shelved;
-              readable = inv.can.shelved.reads r l;
-              known = inv.can.known;
-              long = omega (arith, inv.can.long);
-            };
-        room = omega (arith, inv.can.long);
-      }
-
-  module _ (k : CodePiece) (place rest : ℕ) (passed : Passed text at k place rest inv.so_far.ahead.come) where
-    on : {here : List (Piece ℕ)} {w sum' : Size} (notes' : List ℕ) → gives_way_to (stands_to list spans n) passed.first ≡ here → w ≡ size_of here → sum' ≡ plus sum w
-        → CanMeasure list spans text n notes' → length notes' ≡ length notes → MeasuredSoFar list spans text n notes₀ notes' sum' rest
-    on {here} {w} {sum'} notes' put is e can long =
+  -- what is put for the next piece
+  module _ {k : CodePiece} {place rest : ℕ} (passed : Passed text at k place rest inv.so_far.ahead.come) {found : Option ℕ}
+      (told : (x : Piece ℕ) → Is text k x → found ≡ seek_piece list words n x) where
+    on : {w sum' : Size} {sizes' : List (Option Size)} → w ≡ size_of (gives_way_to (stands_to list words n) passed.first) → sum' ≡ plus sum w
+        → SizesKnown list words sizes' → MeasuredSoFar list words text n sizes' sum' rest
+    on is e known =
+        let here = gives_way_to (stands_to list words n) passed.first in
         record {
           gone = inv.gone ++ here;
-          so_far = linked_on inv.so_far k place rest passed put;
+          so_far = linked_on inv.so_far k place rest passed refl;
           right = e ∙ ap₂ plus inv.right is ∙ sym (size_append inv.gone here);
-          can = can;
-          same = long ∙ inv.same;
+          known = known;
         }
 
-    pub measured_known : {w sum' : Size} → w ≡ size_of (gives_way_to (stands_to list spans n) passed.first) → sum' ≡ plus sum w
-        → MeasuredSoFar list spans text n notes₀ notes sum' rest
-    measured_known is e = on notes refl is e inv.can refl
+    -- the piece itself
+    pub measured_itself : found ≡ None → {w sum' : Size} {sizes' : List (Option Size)} → ((t : List ℕ) (x : Piece ℕ) → Is t k x → w ≡ size_of (x ∷ []))
+        → SizesKnown list words sizes' → sum' ≡ plus sum w → MeasuredSoFar list words text n sizes' sum' rest
+    measured_itself h own known e =
+        let stays = piece_unlisted list words n passed.first (sym (told passed.first passed.is) ∙ h) in
+        on (own text passed.first passed.is ∙ ap size_of (sym stays)) e known
 
-    -- a word that was not remembered: it is measured, and is remembered now
-    pub measured_on : {r : ℕ} {w sum' : Size} (notes' : List ℕ) → (r < n) × (gives_way_to (stands_to list spans n) passed.first ≡ pieces (linked_word list spans r))
-        → w ≡ size (linked_word list spans r) → SizesKnown list spans notes' → length notes' ≡ length notes → sum' ≡ plus sum w
-        → MeasuredSoFar list spans text n notes₀ notes' sum' rest
-    measured_on {r} notes' (l, put) is known long e =
-        on notes' put (is ∙ size-pieces (linked_word list spans r)) e
-        (record { shelved = inv.can.shelved; readable = inv.can.readable; known = known; long = omega (arith, inv.can.long) }) long
+    -- or a word, whose rank is smaller
+    module _ {r : ℕ} (h : found ≡ Some r) where
+      listed : (r < n) × (gives_way_to (stands_to list words n) passed.first ≡ pieces (linked_word list words r))
+      listed = piece-listed list words n passed.first (sym (told passed.first passed.is) ∙ h)
 
--- the word of a rank, measured as its text is and remembered
-pub word-noted : (list spans : List ℕ) (rank : ℕ) {used : List ℕ} {w : Size} (notes₀ notes : List ℕ) {notes' : List ℕ}
-    → used ≡ (word_of list spans rank).text → w ≡ size (linked_text list spans rank used) → SizesKnown list spans notes
-    → length notes ≡ length notes₀ → 2 * rank + 1 < length notes₀ → notes' ≡ with_note notes rank w.cells w.length
-    → (w ≡ size (linked_word list spans rank)) × (SizesKnown list spans notes' × (length notes' ≡ length notes₀))
+      pub measured_lower : r < n
+      measured_lower = listed.0
+
+      pub measured_word : {w sum' : Size} {sizes' : List (Option Size)} → w ≡ size (linked_word list words r) → SizesKnown list words sizes' → sum' ≡ plus sum w
+          → MeasuredSoFar list words text n sizes' sum' rest
+      measured_word is known e = on (is ∙ size-pieces (linked_word list words r) ∙ ap size_of (sym listed.1)) e known
+
+-- a word that was measured is remembered
+pub word-noted : (list : List ℕ) (words : List WordAt) (sizes : List (Option Size)) (rank : ℕ) {w : Size} → rank < length sizes
+    → w ≡ size (linked_word list words rank) → SizesKnown list words sizes → SizesKnown list words (set sizes rank (Some w))
+word-noted list words sizes rank room is known = noted-right (λ k s. size (linked_word list words k) ≡ s) sizes rank room known (sym is)
+
+-- its linked plan is that of its text, linked by the words before it
+pub word_linked : {list : List ℕ} {words : List WordAt} {rank : ℕ} {list' : List ℕ} {words' : List WordAt} {n : ℕ} {text : List ℕ}
+    → list' ≡ list → words' ≡ words → n ≡ rank → text ≡ (word_of list words rank).text → linked_text list' words' n text ≡ linked_word list words rank
 unfolding linked_word
-word-noted list spans rank {w = w} notes₀ notes text_is measures known long room e =
-    let is = measures ∙ ap (λ z. size (linked_text list spans rank z)) text_is in
-    let all = noted-right notes rank w.cells w.length (λ k x y. size (linked_word list spans k) ≡ record { cells = x; length = y })
-    (omega arith) known (sym is) in
-    (is, (λ j a b h. all j a b (ap (λ z. noted z j) (sym e) ∙ h), ap length e ∙ noted_long notes rank w.cells w.length ∙ long))
+word_linked a b c d = rw (a, b, c, d)

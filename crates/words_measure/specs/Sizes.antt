@@ -1,19 +1,14 @@
 -- How the code measures a linked plan: by its cells and its printed bytes. Both counts stop growing past the limit, so that nothing
 -- wraps. And what is remembered of the words.
-use Rattle.std.specs.Prelude.{ℕ, ◌+◌, ◌*◌, ◌≤◌, ◌<◌, min, ◌≡◌, List, length}
+use Rattle.std.specs.Prelude.{ℕ, ◌+◌, ◌*◌, min, ◌≡◌, List, length, get_or, Option, Some, None}
 use Rattle.kinds.specs.Limits.{cell_limit, token_limit}
 use Rattle.plan.specs.Plan.{Plan, cells, print}
-use Rattle.plan.specs.Pieces.{Piece, in_a_row, pieces, piece_labels}
+use Rattle.plan.specs.Pieces.{Piece, in_a_row, piece_labels}
 use Rattle.pieces.specs.declared.Piece.{Piece as CodePiece}
 use Rattle.pieces.specs.declared.Piece.TheVariants.{Operator, Token, Open, Close}
-use Rattle.words_meaning.specs.Places.{gives_way_to}
-use Rattle.words_shelf.specs.Notes.{noted}
-use Rattle.words_shelf.specs.Shelf.{Readable, Shelved, linked_word, stands_to, word_of}
-use Rattle.words_shelf.specs.Spans.{WordKept}
-use Rattle.words_shelf.specs.declared.Noted.TheVariants.{Both}
-use Rattle.words_measure.specs.declared.AtHand.{AtHand}
-use Rattle.words_measure.specs.declared.AtHand.TheVariants.{Known, Word}
-use Rattle.words_measure.specs.declared.Size.{Size}
+use Rattle.plan.specs.declared.Size.{Size}
+use Rattle.words_shelf.specs.Shelf.{linked_word}
+use Rattle.words_shelf.specs.declared.WordAt.{WordAt}
 
 -- one cell more than a plan may have, and one byte more than its printed text can have
 abbrev pub past_cells : ℕ
@@ -43,23 +38,5 @@ piece_cells Open = 1
 piece_cells Close = 0
 
 -- what is remembered of a word is the size of its linked plan
-abbrev pub SizesKnown : (list spans notes : List ℕ) → Type 0
-SizesKnown list spans notes = (r a b : ℕ) → noted notes r ≡ Both a b → size (linked_word list spans r) ≡ record { cells = a; length = b }
-
--- a text can be measured by the words of the ranks below n
-pub record CanMeasure (list spans text : List ℕ) (n : ℕ) (notes : List ℕ) : Type 0 where
-  pub shelved : Shelved list spans n
-  pub readable : Readable text
-  pub known : SizesKnown list spans notes
-  pub long : 2 * n ≤ length notes
-
--- the word of a rank can be measured, and remembered
-pub record CanMeasureWord (list spans : List ℕ) (rank : ℕ) (notes : List ℕ) : Type 0 where
-  pub kept : WordKept list spans rank
-  pub can : CanMeasure list spans (word_of list spans rank).text rank notes
-  pub room : 2 * rank + 1 < length notes
-
--- the size of what is put for a piece is at hand; or a word is put for it, whose size is not remembered
-abbrev pub AtHandTells : (list spans : List ℕ) → (n : ℕ) → AtHand → Piece ℕ → Type 0
-AtHandTells list spans n (Known w) x = w ≡ size_of (gives_way_to (stands_to list spans n) x)
-AtHandTells list spans n (Word r) x = (r < n) × (gives_way_to (stands_to list spans n) x ≡ pieces (linked_word list spans r))
+abbrev pub SizesKnown : (list : List ℕ) → (words : List WordAt) → (sizes : List (Option Size)) → Type 0
+SizesKnown list words sizes = (r : ℕ) (s : Size) → get_or sizes r None ≡ Some s → size (linked_word list words r) ≡ s

@@ -18,7 +18,7 @@ use Rattle.words_meaning.specs.Linking.{stands_for, stock_token}
 use Rattle.words_meaning.specs.Places.{linked_pieces, put_for, gives_way_to}
 use Rattle.words_meaning.proofs.Flat.{pieces-link}
 use Rattle.words_shelf.specs.Shelf.{PieceStands, Readable, linked_text, linked_word, seek, seek_piece, stands_to}
-use Rattle.words_shelf.specs.Words.{WordKept, word_in, word_of, words_to}
+use Rattle.words_shelf.specs.Words.{Shelved, word_at, word_in, word_of, words_to}
 use Rattle.words_shelf.specs.declared.WordAt.{WordAt}
 
 module _ (list : List ℕ) (words : List WordAt) where
@@ -61,10 +61,11 @@ module _ (list : List ℕ) (words : List WordAt) where
   piece-listed n END e = never cc
 
 -- the text of a word that is kept reads
-pub kept_reads : (list : List ℕ) (w : WordAt) → WordKept list w → Readable (word_in list w).text
-kept_reads list w k =
-    let text = (word_in list w).text in
-    let t = acceptable_plan standard text k.2 in
+pub word_reads : (list : List ℕ) (words : List WordAt) {n : ℕ} → Shelved list words n → (r : ℕ) → r < n → Readable (word_of list words r).text
+unfolding word_of
+word_reads list words s r below =
+    let text = (word_in list (word_at words r)).text in
+    let t = acceptable_plan standard text (s r below).2 in
     record { short = t.short; shows = subst (λ p. Shows token_limit 0 text (pieces p)) (sym t.plan_is) t.shows }
 
 -- a piece that a walk gave is one of the text's
