@@ -34,7 +34,6 @@ pub record FinishedSoFar (text : List ℕ) (at blocks : ℕ) (second : List Bool
       → (qs : List (PlanPiece ℕ)) × Shows token_limit at (drop at text) qs × (any_ready 0 [] ps ≡ any_ready blocks (kept second deep) qs)
 
 pub finished-first : {text : List ℕ} {second : List Bool} → length second ≡ cell_limit → ShowsPlan text → FinishedSoFar text 0 0 second 0
-unfolding kept
 finished-first long s =
     record {
       ahead = record { short = s.short; come = pieces s.plan; shows = s.shows };
@@ -117,4 +116,4 @@ module _ {text : List ℕ} {at blocks : ℕ} {second : List Bool} {deep : ℕ} (
           ends (suc d) ps c = omega arith
 
       pub finished-close : (b : Bool) → get_or second (deep - 1) false ≡ b → FinishedSoFar text rest (blocks_behind b) second (deep - 1)
-      finished-close b is = turn e f.long (λ ps. close_turned blocks second deep ps b is finished_within.0)
+      finished-close b is = turn e f.long (λ ps. close_turned blocks second deep ps b is finished_within.0 (omega (arith, f.long, finished_within.1)))

@@ -1,15 +1,16 @@
 -- What one piece does to the count of blocks and to the bits of the open blocks, as the code keeps them. With the new count and bits, the
 -- pieces behind it tell the same as it and they told with the old ones.
 use Prim.Native.Nat.{ℕ, zero, suc, ◌+◌, ◌-◌, ◌≤◌, ◌<◌}
-use mathlib.Core.Path.{◌≡◌, refl, ap, ap₂, sym}
+use mathlib.Core.Path.{◌≡◌, refl, ap, sym, ◌∙◌}
 use mathlib.Core.Bool.{Bool, false, ◌||◌}
 use mathlib.Core.List.{List, [], ◌∷◌}
+use Rattle.std.proofs.lemmas.List.{reverse-append, take_more, take_more_set}
+use Rattle.std.specs.Prelude.{reverse, take}
 use native.Mathlib.Numerals.{add-one}
 use native.Mathlib.Omega.{arith}
 use borrow.Author.Tests.{lt-leb}
 use lib.Dec.{ltb}
 use lib.ListN.{length, get_or, set}
-use lib.Seq.{get_or-set_other, get_or-set_same}
 use Rattle.kinds.specs.declared.Token.{Token as TextToken}
 use Rattle.plan.specs.Pieces.{Piece as PlanPiece, OP, TOKEN, BEGIN, END, Closes, piece_labels}
 use Rattle.plan.specs.declared.Operator.{Operator as PlanOperator}
@@ -20,19 +21,14 @@ use Rattle.pieces.specs.declared.Piece.TheVariants.{Operator, Token, Open, Close
 use Rattle.finished.specs.AnyReady.{blocks_behind, any_ready}
 
 -- the bits of the open blocks, innermost first, where so many are open
-unfoldable pub kept : (second : List Bool) → (deep : ℕ) → List Bool
-kept second zero = []
-kept second (suc d) = get_or second d false ∷ kept second d
-
--- a bit is stored behind those of the blocks around
-kept_below : (second : List Bool) (at : ℕ) (b : Bool) (d : ℕ) → d ≤ at → kept (set second at b) d ≡ kept second d
-unfolding kept
-kept_below second at b zero h = refl
-kept_below second at b (suc d) h = ap₂ ◌∷◌ (get_or-set_other second at d b false (λ e. omega arith)) (kept_below second at b d (omega arith))
+abbrev pub kept : (second : List Bool) → (deep : ℕ) → List Bool
+kept second deep = reverse (take deep second)
 
 kept_more : (second : List Bool) (deep : ℕ) (b : Bool) → deep < length second → kept (set second deep b) (deep + 1) ≡ b ∷ kept second deep
-unfolding kept
-kept_more second deep b h = rw add-one (ap₂ ◌∷◌ (get_or-set_same second deep b false h) (kept_below second deep b deep (omega arith)))
+kept_more second deep b h = ap reverse (take_more_set second deep b h) ∙ reverse-append (take deep second) (b ∷ [])
+
+kept_last : (second : List Bool) (deep : ℕ) → deep < length second → kept second (deep + 1) ≡ get_or second deep false ∷ kept second deep
+kept_last second deep h = ap reverse (take_more second deep false h) ∙ reverse-append (take deep second) (get_or second deep false ∷ [])
 
 -- the plan's piece, by what a match found the code's to be
 abbrev pub Like : Piece → PlanPiece ℕ → Type 0
@@ -72,10 +68,11 @@ module _ (blocks : ℕ) (second : List Bool) (deep : ℕ) (ps : List (PlanPiece 
         room = omega arith;
       }
 
-pub close_turned : (blocks : ℕ) (second : List Bool) (deep : ℕ) (ps : List (PlanPiece ℕ)) (b : Bool) → get_or second (deep - 1) false ≡ b → 0 < deep
+pub close_turned : (blocks : ℕ) (second : List Bool) (deep : ℕ) (ps : List (PlanPiece ℕ)) (b : Bool) → get_or second (deep - 1) false ≡ b → 0 < deep → deep ≤ length second
     → (x : PlanPiece ℕ) → Like Close x → Turned blocks second deep x ps (blocks_behind b) second (deep - 1)
-unfolding any_ready piece_labels kept
-close_turned blocks second zero ps b is h x e = absurd (omega arith)
-close_turned blocks second (suc d) ps b is h x e =
+unfolding any_ready piece_labels
+close_turned blocks second zero ps b is h within x e = absurd (omega arith)
+close_turned blocks second (suc d) ps b is h within x e =
     let less : suc d - 1 ≡ d = omega arith in
-    rw (e, ← is, less) record { same = refl; closes = λ c. c; room = omega arith }
+    let bits : kept second (suc d) ≡ get_or second d false ∷ kept second d = rw add-one at (kept_last second d (omega arith)) in
+    rw (e, ← is, less) record { same = ap (λ k. any_ready blocks k (END ∷ ps)) bits; closes = λ c. c; room = omega arith }
