@@ -1,7 +1,7 @@
 // The character of UTF-8 that stands at a place, and which characters a token may hold.
 #![tactic(auto)]
 
-ghost use Rattle.std.specs.Prelude.{◌≡◌, drop};
+ghost use Rattle.std.specs.Prelude.{◌≡◌, ◌+◌, ◌≤◌, length, drop, IfSome};
 ghost use Rattle.plan.specs.Token.{character, may_hold, value, well_formed};
 ghost use Rattle.characters.specs.Continued.{Room};
 
@@ -35,12 +35,12 @@ fn well_formed(width: u32, least: u32, value: u32) -> Option<Character>
     }
 }
 
-// The character of UTF-8 that begins at a place; at the end of the text or past it there is none.
+// The character of UTF-8 that these bytes begin with, if they begin one.
 #[tactic(auto, unfolding(plan::specs::Token::character, plan::specs::Token::well_formed))]
-pub fn character_at(text: &[u8], at: usize) -> Option<Character>
-    ensures { result ≡ character (drop at text.now) }
+fn first_character(bytes: &[u8]) -> Option<Character>
+    ensures { result ≡ character bytes.now }
 {
-    let [first, rest @ ..] = text.get(at..)? else {
+    let [first, rest @ ..] = bytes else {
         return None;
     };
     let first = *first as u32;
@@ -54,6 +54,15 @@ pub fn character_at(text: &[u8], at: usize) -> Option<Character>
         0xF0..=0xF7 => well_formed(4, 0x10000, following(rest, first - 0xF0, 3)?),
         _ => None,
     }
+}
+
+// The character that begins at a place, with all its bytes in the text; at the end of the text or past it there is none.
+#[tactic(auto, unfolding(plan::specs::Token::character))]
+pub fn character_at(text: &[u8], at: usize) -> Option<Character>
+    ensures is { result ≡ character (drop at text.now) }
+    ensures there { IfSome result (λ c. (1 ≤ c.width) × (at + c.width ≤ length text.now)) }
+{
+    first_character(text.get(at..)?)
 }
 
 // The characters that open and close a token.

@@ -10,37 +10,39 @@ use characters::{OPEN_BRACE, character_at, may_hold};
 use kinds::{Place, Token};
 use plan::{Character, TokenFault};
 
-// What reading a token comes to: a whole one, or its first fault and where that stands.
+// A token's first fault, and where it stands.
 #[derive(Clone, Copy)]
-pub enum TokenRead {
-    Whole,
-    Faulty { fault: TokenFault, at: Place },
+pub struct FaultyToken {
+    pub fault: TokenFault,
+    pub at: Place,
 }
 
-// What the next byte of a token begins: a character of so many bytes that the token may hold, or the end of the token's reading.
+// What the next byte of a token begins: a character of so many bytes that the token may hold, or the end of the token's reading, which is
+// the end of a whole token unless it has a fault.
 #[derive(Clone, Copy)]
 pub enum InToken {
     Further(u32),
-    Ends(TokenRead),
+    Ends(Result<(), FaultyToken>),
 }
 
 fn token_faulty(fault: TokenFault, at: usize) -> InToken
     requires { at ≤ text_limit }
     ensures { result ≡ token_faulty fault at }
 {
-    InToken::Ends(TokenRead::Faulty {
+    InToken::Ends(Err(FaultyToken {
         fault,
         at: Place::new(at),
-    })
+    }))
 }
 
 // The character at a place of a token. The token may have no byte behind `last`, which has to be its `}`. A fault of the character's own
 // comes first, since it stands before that byte.
+#[tactic(auto, unfolding(crate::specs::InToken::in_character))]
 fn token_character(text: &[u8], last: usize, at: usize) -> InToken
     requires { (length text.now ≤ text_limit) × (at < last) × (at < length text.now) }
     ensures { result ≡ in_character last at (character (drop at text.now)) }
 {
-    let Character::Whole { value, width } = character_at(text, at) else {
+    let Some(Character { value, width }) = character_at(text, at) else {
         return token_faulty(TokenFault::BadUtf8, at);
     };
     // The character's own fault stands at its first byte. Whether it reaches `last` is asked of its last byte.
@@ -58,22 +60,17 @@ fn token_character(text: &[u8], last: usize, at: usize) -> InToken
 }
 
 // The next byte of the token whose `{` is at `start`. The token's 64th byte is the last that it may have, and has to be its `}`.
+#[tactic(auto, unfolding(crate::specs::InToken::in_token))]
 pub fn token_byte(text: &[u8], start: usize, at: usize) -> InToken
     requires { (length text.now ≤ text_limit) × (start < at) × (at < start + token_limit) × (at ≤ length text.now) }
     ensures { result ≡ in_token token_limit start at text.now }
 {
-    if text.len() <= at {
-        return token_faulty(TokenFault::Long, text.len());
-    }
-    if text[at] == b'}' {
-        if at == start + 1 {
-            return token_faulty(TokenFault::Empty, at);
-        }
-        return InToken::Ends(TokenRead::Whole);
-    }
     let last = start + (Token::LIMIT - 1);
-    if at == last {
-        return token_faulty(TokenFault::Long, at);
+    match text.get(at) {
+        None => token_faulty(TokenFault::Long, text.len()),
+        Some(b'}') if at == start + 1 => token_faulty(TokenFault::Empty, at),
+        Some(b'}') => InToken::Ends(Ok(())),
+        Some(_) if at == last => token_faulty(TokenFault::Long, at),
+        Some(_) => token_character(text, last, at),
     }
-    token_character(text, last, at)
 }
