@@ -11,7 +11,6 @@ use Rattle.pieces.specs.declared.Piece.{Piece as CodePiece}
 use Rattle.items.specs.Walk.{Passed}
 use Rattle.words_meaning.specs.Places.{gives_way_to}
 use Rattle.words_shelf.specs.Shelf.{Readable, linked_text, linked_word, seek_piece, stands_to}
-use Rattle.words_shelf.specs.Words.{word_of}
 use Rattle.words_shelf.specs.declared.WordAt.{WordAt}
 use Rattle.words_shelf.proofs.Noting.{noted-right}
 use Rattle.words_shelf.proofs.StandsFor.{LinkedSoFar, linked_first, linked_on, piece-listed, piece_unlisted}
@@ -71,9 +70,3 @@ module _ {list : List ℕ} {words : List WordAt} {text : List ℕ} {n : ℕ} {si
 pub word-noted : (list : List ℕ) (words : List WordAt) (sizes : List (Option Size)) (rank : ℕ) {w : Size} → rank < length sizes
     → w ≡ size (linked_word list words rank) → SizesKnown list words sizes → SizesKnown list words (set sizes rank (Some w))
 word-noted list words sizes rank room is known = noted-right (λ k s. size (linked_word list words k) ≡ s) sizes rank room known (sym is)
-
--- its linked plan is that of its text, linked by the words before it
-pub word_linked : {list : List ℕ} {words : List WordAt} {rank : ℕ} {list' : List ℕ} {words' : List WordAt} {n : ℕ} {text : List ℕ}
-    → list' ≡ list → words' ≡ words → n ≡ rank → text ≡ (word_of list words rank).text → linked_text list' words' n text ≡ linked_word list words rank
-unfolding linked_word
-word_linked a b c d = rw (a, b, c, d)

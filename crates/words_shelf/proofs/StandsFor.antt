@@ -68,6 +68,12 @@ word_reads list words s r below =
     let t = acceptable_plan standard text (s r below).2 in
     record { short = t.short; shows = subst (λ p. Shows token_limit 0 text (pieces p)) (sym t.plan_is) t.shows }
 
+-- its linked plan is that of its text, linked by the words before it, as a shelf has them
+pub word_linked : {list : List ℕ} {words : List WordAt} {rank : ℕ} {list' : List ℕ} {words' : List WordAt} {n : ℕ} {text : List ℕ}
+    → list' ≡ list → words' ≡ words → n ≡ rank → text ≡ (word_of list words rank).text → linked_text list' words' n text ≡ linked_word list words rank
+unfolding linked_word
+word_linked a b c d = rw (a, b, c, d)
+
 -- a piece that a walk gave is one of the text's
 pub passed_stands : {text : List ℕ} {at place rest : ℕ} {k : CodePiece} {ps : List (Piece ℕ)} → Passed text at k place rest ps → PieceStands text k
 passed_stands passed = (passed.first, passed.is)

@@ -1,4 +1,3 @@
-pub mod CopyingOn
-pub mod PutFor
+pub mod WordWritten
 pub mod WrittenBefore
 pub mod WrittenSoFar

@@ -2,25 +2,25 @@
 // copied from the output, and one that links to nothing is not entered. So the work is to walk each text once and to write the bytes.
 #![tactic(auto)]
 
-ghost use Rattle.std.specs.Prelude.{◌≡◌, ℕ, ◌+◌, ◌≤◌, ◌<◌, ◌*◌, true, List, [], length, take, drop};
-ghost use Rattle.plan.specs.Plan.{print};
+ghost use Rattle.std.specs.Prelude.{◌≡◌, ℕ, ◌+◌, ◌≤◌, ◌<◌, List, length, IfSome};
 ghost use Rattle.kinds.specs.Written.{put_at};
+ghost use Rattle.plan.specs.Plan.{print};
 ghost use Rattle.pieces.specs.Written.{InText, piece_bytes, piece_length};
-ghost use Rattle.words_shelf.specs.Shelf.{PieceStands, Shelved, linked_text, linked_word};
+ghost use Rattle.stored.specs.Spans.{part};
+ghost use Rattle.words_shelf.specs.declared.WordAt.{WordAt};
+ghost use Rattle.words_shelf.specs.Shelf.{Readable, linked_text, linked_word};
 ghost use Rattle.words_measure.specs.Sizes.{SizesKnown};
-ghost use Rattle.words_write.specs.Writing.{TellsForPiece, TellsForWord, WordsPlaced, Writable, WritableWord};
+ghost use Rattle.words_write.specs.Writing.{WordsPlaced, Writable, WritableWord, WrittenBefore};
 
-use items::{Cursor, NextPiece, next};
+use items::{Placed, Walk};
 use pieces::{Piece, put_piece};
-use words_shelf::{Named, Noted, find_piece, note, recall, text_of};
+use stored::Span;
+use words_meaning::MOST;
+use words_measure::Sizes;
+use words_shelf::Shelf;
 
-// What is put for a piece: the piece itself, bytes that stand in the output already, or a word that was not written yet.
-#[derive(Clone, Copy)]
-pub enum ToPut {
-    Itself,
-    Copy { from: usize, len: usize },
-    Word(u32),
-}
+// Where in the output the linked texts of the words stand that were written.
+type Places = [Option<Span>; MOST];
 
 // Writes a piece, and gives the place behind it.
 fn put_itself(text: &[u8], piece: Piece, out: &mut [u8], put: usize) -> usize
@@ -33,123 +33,93 @@ fn put_itself(text: &[u8], piece: Piece, out: &mut [u8], put: usize) -> usize
 }
 
 // Copies bytes of the output to a place behind them, and gives the place behind the copy.
-fn copy_on(out: &mut [u8], from: usize, len: usize, put: usize) -> usize
-    requires { (from + len ≤ put) × (put + len ≤ length out.old) }
-    ensures behind { result ≡ put + len }
-    ensures written { out.new ≡ put_at out.old put (take len (drop from out.old)) }
+fn copy_on(out: &mut [u8], span: Span, put: usize) -> usize
+    requires { (span.at + span.len ≤ put) × (put + span.len ≤ length out.old) }
+    ensures behind { result ≡ put + span.len }
+    ensures written { out.new ≡ put_at out.old put (part out.old span) }
 {
-    let mut done = 0;
-    while done < len {
-        out[put + done] = out[from + done];
-        done += 1;
-    }
-    put + len
+    out.copy_within(span.at..span.end(), put);
+    put + span.len
 }
 
-// Whether a word was measured and links to nothing.
-fn is_nothing(sizes: &[u32], word: u32) -> bool
-    requires { 2 * word + 1 < length sizes.now }
-    ensures { (list spans : List ℕ) → SizesKnown list spans sizes.now → result ≡ true → print (linked_word list spans word) ≡ [] }
+// Where a word's linked text stands in the output, if it does. One that links to nothing stands anywhere.
+fn place_of(sizes: &Sizes, places: &Places, word: usize) -> Option<Span>
+    requires { word < length sizes.now }
+    ensures { (list : List ℕ) (words : List WordAt) (out : List ℕ) (put : ℕ) → SizesKnown list words sizes.now → WordsPlaced list words places.now out put → IfSome result (λ s. WrittenBefore out put s (print (linked_word list words word))) }
 {
-    match recall(sizes, word) {
-        Noted::Nothing => false,
-        Noted::Both(cells, length) => cells == 0,
+    match sizes[word] {
+        Some(size) if size.cells == 0 => Some(Span { at: 0, len: 0 }),
+        _ => places[word],
     }
 }
 
-// What is put for a word.
-fn put_for_word(sizes: &[u32], places: &[u32], word: u32) -> ToPut
-    requires { (2 * word + 1 < length sizes.now) × (2 * word + 1 < length places.now) }
-    ensures { TellsForWord sizes.now places.now word result }
-{
-    if is_nothing(sizes, word) {
-        return ToPut::Copy { from: 0, len: 0 };
-    }
-    match recall(places, word) {
-        Noted::Nothing => ToPut::Word(word),
-        Noted::Both(from, len) => ToPut::Copy {
-            from: from as usize,
-            len: len as usize,
-        },
-    }
-}
-
-// What is put for a piece.
-fn put_for(
-    list: &[u8],
-    spans: &[u32],
-    text: &[u8],
-    below: u32,
-    sizes: &[u32],
-    places: &[u32],
-    piece: Piece,
-) -> ToPut
-    requires { Shelved list.now spans.now below × (2 * below ≤ length sizes.now) × (2 * below ≤ length places.now) × PieceStands text.now piece }
-    ensures { TellsForPiece list.now spans.now text.now below sizes.now places.now piece result }
-{
-    match find_piece(list, spans, below, text, piece) {
-        Named::Unlisted => ToPut::Itself,
-        Named::Listed(word) => put_for_word(sizes, places, word),
-    }
-}
-
-// Writes a word that was not written yet, by the words before it, remembers where it stands, and gives the place behind it.
-#[cycle(write_write_word)]
+// Writes a word's linked text, and gives the place behind it. Where it stands in the output it is copied. Else it is written now by the words
+// before it, and its place is remembered.
+#[cycle(write_text_write_word)]
 fn write_word(
-    list: &[u8],
-    spans: &[u32],
-    word: u32,
-    sizes: &[u32],
-    places: &mut [u32],
+    shelf: &Shelf,
+    word: usize,
+    sizes: &Sizes,
+    places: &mut Places,
     out: &mut [u8],
     put: usize,
 ) -> usize
-    requires { WritableWord list.now spans.now word sizes.now places.old out.old put }
-    ensures behind { result ≡ put + length (print (linked_word list.now spans.now word)) }
-    ensures written { out.new ≡ put_at out.old put (print (linked_word list.now spans.now word)) }
-    ensures placed { WordsPlaced list.now spans.now places.new out.new result }
-    ensures as_long { length places.new ≡ length places.old }
+    requires { WritableWord shelf.now.list.now shelf.now.words.now shelf.now.below word sizes.now places.old out.old put }
+    ensures behind { result ≡ put + length (print (linked_word shelf.now.list.now shelf.now.words.now word)) }
+    ensures written { out.new ≡ put_at out.old put (print (linked_word shelf.now.list.now shelf.now.words.now word)) }
+    ensures placed { WordsPlaced shelf.now.list.now shelf.now.words.now places.new out.new result }
 {
-    let used = text_of(list, spans, word);
-    let behind = write(list, spans, used, word, sizes, places, out, put);
-    note(places, word, put as u32, (behind - put) as u32);
-    behind
+    if let Some(span) = place_of(sizes, places, word) {
+        return copy_on(out, span, put);
+    }
+    let end = write_text(
+        &shelf.before(word),
+        shelf.text_of(word),
+        sizes,
+        places,
+        out,
+        put,
+    );
+    places[word] = Some(Span {
+        at: put,
+        len: end - put,
+    });
+    end
 }
 
-// Writes a text's plan, linked by the words of the ranks below a bound, and gives the place behind it. A word that it uses and that was not
-// written yet is written in the same way: its rank is smaller, so this ends.
-#[cycle(write_write_word)]
-pub fn write(
-    list: &[u8],
-    spans: &[u32],
+// Writes a text's plan, linked by the words of a shelf, and gives the place behind it. A word that it uses is written in the same way: its
+// rank is smaller, so this ends.
+#[cycle(write_text_write_word)]
+fn write_text(
+    shelf: &Shelf,
     text: &[u8],
-    below: u32,
-    sizes: &[u32],
-    places: &mut [u32],
+    sizes: &Sizes,
+    places: &mut Places,
     out: &mut [u8],
     put: usize,
 ) -> usize
-    requires { Writable list.now spans.now text.now below sizes.now places.old out.old put }
-    ensures behind { result ≡ put + length (print (linked_text list.now spans.now below text.now)) }
-    ensures written { out.new ≡ put_at out.old put (print (linked_text list.now spans.now below text.now)) }
-    ensures placed { WordsPlaced list.now spans.now places.new out.new result }
-    ensures as_long { length places.new ≡ length places.old }
+    requires { Writable shelf.now.list.now shelf.now.words.now shelf.now.below text.now sizes.now places.old out.old put }
+    ensures behind { result ≡ put + length (print (linked_text shelf.now.list.now shelf.now.words.now shelf.now.below text.now)) }
+    ensures written { out.new ≡ put_at out.old put (print (linked_text shelf.now.list.now shelf.now.words.now shelf.now.below text.now)) }
+    ensures placed { WordsPlaced shelf.now.list.now shelf.now.words.now places.new out.new result }
 {
     let mut end = put;
-    let mut cursor = Cursor { at: 0 };
-    loop {
-        match next(text, cursor) {
-            NextPiece::End => return end,
-            NextPiece::Piece { piece, at, rest } => {
-                match put_for(list, spans, text, below, sizes, places, piece) {
-                    ToPut::Itself => end = put_itself(text, piece, out, end),
-                    ToPut::Copy { from, len } => end = copy_on(out, from, len, end),
-                    ToPut::Word(word) => {
-                        end = write_word(list, spans, word, sizes, places, out, end);
-                    }
-                }
-                cursor = rest;
-            }
-        }
+    for Placed { piece, .. } in Walk::over(text) {
+        end = match shelf.find_piece(text, piece) {
+            None => put_itself(text, piece, out, end),
+            Some(word) => write_word(shelf, word, sizes, places, out, end),
+        };
     }
+    end
+}
+
+// Writes a text's plan, linked by the words of a shelf, to the front of the output.
+pub fn write(shelf: &Shelf, text: &[u8], sizes: &Sizes, out: &mut [u8])
+    requires reads { Readable text.now }
+    requires known { SizesKnown shelf.now.list.now shelf.now.words.now sizes.now }
+    requires room { length (print (linked_text shelf.now.list.now shelf.now.words.now shelf.now.below text.now)) ≤ length out.old }
+    ensures { out.new ≡ put_at out.old 0 (print (linked_text shelf.now.list.now shelf.now.words.now shelf.now.below text.now)) }
+{
+    let mut places: Places = [None; MOST];
+    write_text(shelf, text, sizes, &mut places, out, 0);
 }

@@ -1,8 +1,8 @@
 use Rattle.std.proofs.Common.{ap, arith, ◌∙◌}
 use Rattle.items.proofs.Walking.{on_walk, walk_begins, walk_over, walk_piece, walk_same}
-use Rattle.words_shelf.proofs.StandsFor.{word_reads, linked_over, passed_stands}
+use Rattle.words_shelf.proofs.StandsFor.{linked_over, passed_stands, word_linked, word_reads}
 use Rattle.words_measure.specs.Sizes.{size}
-use Rattle.words_measure.proofs.MeasuredSoFar.{measured_first, measured_itself, measured_last, measured_lower, measured_word, word_linked, word-noted}
+use Rattle.words_measure.proofs.MeasuredSoFar.{measured_first, measured_itself, measured_last, measured_lower, measured_word, word-noted}
 use Rattle.words_measure.proofs.+measure_measure_word.Goals as goal
 use Rattle.words_measure.proofs.+measure_measure_word.Goals.{measure-in-None-find_piece, measure-in-Some-find_piece}
 
@@ -43,7 +43,7 @@ measure-loop-piece-preserved t c =
 pub measure-returns-clause-told : goal.measure-returns-clause-told
 measure-returns-clause-told t c =
     let on = c.loop-piece.invariant in
-    measured_last on.kept (linked_over on.kept.so_far (walk_over on on.kept.so_far.ahead c.in-None.ensures.steps))
+    measured_last on.kept (linked_over on.kept.so_far (walk_over on c.in-None.ensures.steps on.kept.so_far.ahead))
 
 -- the word's text is measured by the words before it
 pub measure_word-measure-size-requires : goal.measure_word-measure-size-requires

@@ -1,80 +1,97 @@
-use Rattle.std.proofs.Common.{arith}
-use Rattle.items.proofs.Walking.{passed_here, walked_over, walked_piece}
-use Rattle.words_shelf.proofs.StandsFor.{linked_over}
-use Rattle.words_write.proofs.WrittenSoFar.{copied_room, spliced_behind, spliced_copy, spliced_first, spliced_in_text, spliced_itself, spliced_lower, spliced_room, spliced_word, spliced_written, word-written}
-use Rattle.words_write.proofs.+write_write_word.Goals as goal
+use Rattle.std.proofs.Common.{refl, arith}
+use Rattle.items.proofs.Walking.{on_walk, walk_begins, walk_over, walk_piece, walk_same}
+use Rattle.words_shelf.proofs.StandsFor.{linked_over, passed_stands, word_linked}
+use Rattle.words_write.proofs.WordWritten.{copied_behind, copied_fits, copied_placed, copied_word, text_writable, word_placed}
+use Rattle.words_write.proofs.WrittenSoFar.{itself_fits, word_writable, written_all, written_behind, written_first, written_itself, written_word}
+use Rattle.words_write.proofs.+write_text_write_word.Goals as goal
 
-pub write-loop-piece-init : goal.write-loop-piece-init
-write-loop-piece-init t c = spliced_first c.requires
+pub write_text-loop-piece-init : goal.write_text-loop-piece-init
+write_text-loop-piece-init t c =
+    let w = walk_begins c.into_iter-piece-iterator.ensures.into_iter_gives c.over-piece-items.ensures in
+    let first = written_first c.requires in
+    on_walk _ w.0 (rw w.1 first.so_far.ahead) (rw w.1 first)
 
-pub write-returns-in-End-clause-behind : goal.write-returns-in-End-clause-behind
-write-returns-in-End-clause-behind t c =
-    let inv = c.loop-piece.invariant in
-    spliced_behind inv (linked_over inv.so_far (walked_over c.args.text.now c.next.ensures c.in-End.is _ inv.so_far.ahead.shows))
+pub write_text-find_piece-requires : goal.write_text-find_piece-requires
+write_text-find_piece-requires t c =
+    let on = c.loop-piece.invariant in
+    passed_stands (walk_piece on c.in-Some.ensures.steps on.kept.so_far.ahead)
 
-pub write-returns-in-End-clause-written : goal.write-returns-in-End-clause-written
-write-returns-in-End-clause-written t c =
-    let inv = c.loop-piece.invariant in
-    spliced_written inv (linked_over inv.so_far (walked_over c.args.text.now c.next.ensures c.in-End.is _ inv.so_far.ahead.shows))
+pub write_text-put_itself-end-requires : goal.write_text-put_itself-end-requires
+write_text-put_itself-end-requires t c =
+    let on = c.loop-piece.invariant in
+    let here = walk_piece on c.in-Some.ensures.steps on.kept.so_far.ahead in
+    itself_fits on.kept here c.find_piece.ensures c.in-None-find_piece.is
 
--- a piece that stays
-pub write-put_itself-end-requires : goal.write-put_itself-end-requires
-write-put_itself-end-requires t c =
-    let inv = c.loop-piece.invariant in
-    let here = passed_here inv.so_far.ahead (walked_piece c.args.text.now c.next.ensures c.in-Piece.is) in
-    let stays = c.in-Itself.ensures _ _ _ inv.ready.known inv.ready.placed here.is in
-    (spliced_in_text inv _ _ _ here stays, spliced_room inv _ _ _ here stays)
+pub write_text-write_word-end-requires : goal.write_text-write_word-end-requires
+write_text-write_word-end-requires t c =
+    let on = c.loop-piece.invariant in
+    let here = walk_piece on c.in-Some.ensures.steps on.kept.so_far.ahead in
+    let word = word_writable on.kept here c.find_piece.ensures c.in-Some-find_piece.is in
+    (omega (arith, c.decreases, word.below), word)
 
-pub write-loop-piece-preserved-in-Itself : goal.write-loop-piece-preserved-in-Itself
-write-loop-piece-preserved-in-Itself t c =
-    let inv = c.loop-piece.invariant in
-    let here = passed_here inv.so_far.ahead (walked_piece c.args.text.now c.next.ensures c.in-Piece.is) in
-    let stays = c.in-Itself.ensures _ _ _ inv.ready.known inv.ready.placed here.is in
-    spliced_itself inv _ _ _ here stays _ c.put_itself-end.ensures.behind c.put_itself-end.ensures.written
+pub write_text-loop-piece-preserved-in-None-find_piece : goal.write_text-loop-piece-preserved-in-None-find_piece
+write_text-loop-piece-preserved-in-None-find_piece t c =
+    let on = c.loop-piece.invariant in
+    let here = walk_piece on c.in-Some.ensures.steps on.kept.so_far.ahead in
+    let put = c.put_itself-end.ensures in
+    let next = written_itself on.kept here c.find_piece.ensures c.in-None-find_piece.is refl put.behind put.written in
+    on_walk _ (walk_same on c.in-Some.ensures.steps) next.so_far.ahead next
 
--- bytes that stand in the output
-pub write-copy_on-end-requires : goal.write-copy_on-end-requires
-write-copy_on-end-requires t c =
-    let inv = c.loop-piece.invariant in
-    let here = passed_here inv.so_far.ahead (walked_piece c.args.text.now c.next.ensures c.in-Piece.is) in
-    let stands = c.in-Copy.ensures _ _ _ inv.ready.known inv.ready.placed here.is in
-    (stands.0, copied_room inv _ _ _ here _ _ stands)
+pub write_text-loop-piece-preserved : goal.write_text-loop-piece-preserved
+write_text-loop-piece-preserved t c =
+    let on = c.loop-piece.invariant in
+    let here = walk_piece on c.in-Some.ensures.steps on.kept.so_far.ahead in
+    let word = c.write_word-end.ensures in
+    let next = written_word on.kept here c.find_piece.ensures c.in-Some-find_piece.is word.behind word.written word.placed in
+    on_walk _ (walk_same on c.in-Some.ensures.steps) next.so_far.ahead next
 
-pub write-loop-piece-preserved-in-Copy : goal.write-loop-piece-preserved-in-Copy
-write-loop-piece-preserved-in-Copy t c =
-    let inv = c.loop-piece.invariant in
-    let here = passed_here inv.so_far.ahead (walked_piece c.args.text.now c.next.ensures c.in-Piece.is) in
-    let stands = c.in-Copy.ensures _ _ _ inv.ready.known inv.ready.placed here.is in
-    spliced_copy inv _ _ _ here _ _ stands _ c.copy_on-end.ensures.behind c.copy_on-end.ensures.written
+pub write_text-returns-clause-behind : goal.write_text-returns-clause-behind
+write_text-returns-clause-behind t c =
+    let on = c.loop-piece.invariant in
+    written_behind on.kept (linked_over on.kept.so_far (walk_over on c.in-None.ensures.steps on.kept.so_far.ahead))
 
--- a word that was not written yet
-pub write-write_word-end-requires : goal.write-write_word-end-requires
-write-write_word-end-requires t c =
-    let inv = c.loop-piece.invariant in
-    let here = passed_here inv.so_far.ahead (walked_piece c.args.text.now c.next.ensures c.in-Piece.is) in
-    let found = c.in-Word.ensures _ _ _ inv.ready.known inv.ready.placed here.is in
-    (omega (arith, c.decreases, found.0), spliced_lower inv _ _ _ here found)
+pub write_text-returns-clause-written : goal.write_text-returns-clause-written
+write_text-returns-clause-written t c =
+    let on = c.loop-piece.invariant in
+    written_all on.kept (linked_over on.kept.so_far (walk_over on c.in-None.ensures.steps on.kept.so_far.ahead))
 
-pub write-loop-piece-preserved : goal.write-loop-piece-preserved
-write-loop-piece-preserved t c =
-    let inv = c.loop-piece.invariant in
-    let here = passed_here inv.so_far.ahead (walked_piece c.args.text.now c.next.ensures c.in-Piece.is) in
-    let found = c.in-Word.ensures _ _ _ inv.ready.known inv.ready.placed here.is in
-    let wrote = c.write_word-end.ensures in
-    spliced_word inv _ _ _ here found _ _ wrote.behind wrote.written wrote.placed wrote.as_long
+-- a word that stands in the output is copied
+pub write_word-copy_on-requires : goal.write_word-copy_on-requires
+write_word-copy_on-requires t c = copied_fits c.requires _ (c.in-Some.ensures _ _ _ _ c.requires.known c.requires.placed)
 
--- the word's text is written, and where it stands is noted
-pub write_word-returns-clause-placed : goal.write_word-returns-clause-placed
-write_word-returns-clause-placed t c =
-    let wrote = c.write-behind.ensures in
-    (word-written _ _ _ c.requires c.text_of-used.ensures wrote.behind _ _ _ wrote.written wrote.placed wrote.as_long c.note.ensures).1.1.0
+pub write_word-returns-in-Some-clause-behind : goal.write_word-returns-in-Some-clause-behind
+write_word-returns-in-Some-clause-behind t c =
+    copied_behind c.requires _ (c.in-Some.ensures _ _ _ _ c.requires.known c.requires.placed) c.copy_on.ensures.behind
+
+pub write_word-returns-in-Some-clause-written : goal.write_word-returns-in-Some-clause-written
+write_word-returns-in-Some-clause-written t c =
+    copied_word c.requires _ (c.in-Some.ensures _ _ _ _ c.requires.known c.requires.placed) c.copy_on.ensures.written
+
+pub write_word-returns-in-Some-clause-placed : goal.write_word-returns-in-Some-clause-placed
+write_word-returns-in-Some-clause-placed t c =
+    let wrote = c.copy_on.ensures in
+    copied_placed c.requires _ (c.in-Some.ensures _ _ _ _ c.requires.known c.requires.placed) wrote.behind wrote.written
+
+-- another is written by the words before it
+pub write_word-write_text-end-requires : goal.write_word-write_text-end-requires
+write_word-write_text-end-requires t c =
+    let before = c.before-2.ensures in
+    (omega (arith, c.decreases, before.below), rw (before.list, before.words, before.below, c.text_of.ensures) (text_writable c.requires c.args.shelf.now.shelved))
 
 pub write_word-returns-clause-behind : goal.write_word-returns-clause-behind
 write_word-returns-clause-behind t c =
-    let wrote = c.write-behind.ensures in
-    (word-written _ _ _ c.requires c.text_of-used.ensures wrote.behind _ _ _ wrote.written wrote.placed wrote.as_long c.note.ensures).0
+    let before = c.before-2.ensures in
+    rw (word_linked before.list before.words before.below c.text_of.ensures) at c.write_text-end.ensures.behind
 
 pub write_word-returns-clause-written : goal.write_word-returns-clause-written
 write_word-returns-clause-written t c =
-    let wrote = c.write-behind.ensures in
-    (word-written _ _ _ c.requires c.text_of-used.ensures wrote.behind _ _ _ wrote.written wrote.placed wrote.as_long c.note.ensures).1.0
+    let before = c.before-2.ensures in
+    rw (word_linked before.list before.words before.below c.text_of.ensures) at c.write_text-end.ensures.written
+
+pub write_word-returns-clause-placed : goal.write_word-returns-clause-placed
+write_word-returns-clause-placed t c =
+    let before = c.before-2.ensures in
+    let wrote = c.write_text-end.ensures in
+    let linked = word_linked before.list before.words before.below c.text_of.ensures in
+    let placed = rw (before.list, before.words) at wrote.placed in
+    word_placed c.requires _ (rw linked at wrote.behind) (rw linked at wrote.written) (omega (arith, c.args.shelf.now.few, c.requires.below)) placed
