@@ -31,8 +31,8 @@ pub struct Ran {
 impl From<Unread> for RunRefusal {
     ghost from_gives = { λ u r. r ≡ NotRead u };
 
-    fn from(why: Unread) -> RunRefusal {
-        RunRefusal::NotRead(why)
+    fn from(unread: Unread) -> RunRefusal {
+        RunRefusal::NotRead(unread)
     }
 }
 
