@@ -23,6 +23,12 @@ pub fn say_count(rt: &(impl Print + Eprint), count: impl Display + Drop) {
     warn_unless(rt, print!(rt; "{count}"));
 }
 
+// A count on a line of its own.
+pub fn say_line(rt: &(impl Print + Eprint), count: impl Display + Drop) {
+    say_count(rt, count);
+    say(rt, b"\n");
+}
+
 // Number, steps, cells, length and place in decimal, with one SP between; an error where not all could be written.
 pub fn tell_five(rt: &impl Print, numbers: Numbers) -> io::Result<()> {
     let Numbers {
