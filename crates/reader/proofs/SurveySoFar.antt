@@ -14,6 +14,7 @@ use lib.Seq.{take_all, split_at, length-take-le}
 use borrow.Author.Tests.{eqb-true, eqb-false, ltb-true, ltb-false}
 use Rattle.kinds.specs.Limits.{text_limit, token_limit}
 use Rattle.kinds.specs.declared.Place.{Place}
+use Rattle.std.specs.Prelude.{Result, Ok, Err}
 use Rattle.plan.specs.Plan.{Plan, cells, labels, print}
 use Rattle.plan.specs.Reading.{Mark, PLAN, blank, OUTSIDE, class, place, place_of_item, read_bytes, without_marks}
 use Rattle.plan.specs.declared.Class.{Class}
@@ -28,10 +29,11 @@ use Rattle.plan.proofs.Reached.{text-read}
 use Rattle.plan.proofs.Refusals.{faulty_read, item-place}
 use Rattle.plan.proofs.Plans.{length-labels}
 use Rattle.kinds.proofs.Tests.{never}
-use Rattle.reader.specs.Counting.{Small, nothing_yet, one_item, closed, stepped, survey_ended, surveyed}
+use Rattle.reader.specs.Counting.{Small, nothing_yet, one_item, closed, counted as counted_of, stepped, survey_ended, surveyed}
 use Rattle.reader.specs.declared.Count.{Count}
-use Rattle.reader.specs.declared.ByteStep.TheVariants.{On, Token, Stop}
-use Rattle.reader.specs.declared.Surveyed.TheVariants.{Counted, Faulty as FaultyText}
+use Rattle.reader.specs.declared.ByteStep.{ByteStep}
+use Rattle.reader.specs.declared.ByteStep.TheVariants.{On, Token}
+use Rattle.reader.specs.declared.Counted.{Counted}
 
 -- item number `room` begins at the place `first`
 pub record PastAt (text : List ℕ) (room first at : ℕ) : Type 0 where
@@ -133,22 +135,26 @@ survey_start text room n short e =
       none_past = λ h. refl;
     })
 
-same_counts : {c c' l l' : ℕ} {p p' : Place} → c ≡ c' → l ≡ l' → p ≡ p' → Counted c l p ≡ Counted c' l' p'
+same_counts : {c c' l l' : ℕ} {p p' : Place} → c ≡ c' → l ≡ l' → p ≡ p' → ◌≡◌ {A = Result Counted TextFault} (Ok (counted_of c l p)) (Ok (counted_of c' l' p'))
 same_counts a b e = rw (a, b, e)
 
-on_injective : {n m : Count} → On n ≡ On m → n ≡ m
+-- the answers that a byte may get
+abbrev pub Step : Type 0
+Step = Result ByteStep TextFault
+
+on_injective : {n m : Count} → ◌≡◌ {A = Step} (Ok (On n)) (Ok (On m)) → n ≡ m
 on_injective e = cc
 
-stop_injective : {r s : TextFault} → Stop r ≡ Stop s → r ≡ s
+stop_injective : {r s : TextFault} → ◌≡◌ {A = Step} (Err r) (Err s) → r ≡ s
 stop_injective e = cc
 
-stop_is_not_on : {A : Type 0} {r : TextFault} {n : Count} → Stop r ≡ On n → A
+stop_is_not_on : {A : Type 0} {r : TextFault} {n : Count} → ◌≡◌ {A = Step} (Err r) (Ok (On n)) → A
 stop_is_not_on e = never cc
 
-pub token_is_not_on : {A : Type 0} {n : Count} → Token ≡ On n → A
+pub token_is_not_on : {A : Type 0} {n : Count} → ◌≡◌ {A = Step} (Ok Token) (Ok (On n)) → A
 token_is_not_on e = never cc
 
-pub token_is_not_stop : {A : Type 0} {r : TextFault} → Token ≡ Stop r → A
+pub token_is_not_stop : {A : Type 0} {r : TextFault} → ◌≡◌ {A = Step} (Ok Token) (Err r) → A
 token_is_not_stop e = never cc
 
 -- the byte at the place
@@ -156,7 +162,7 @@ module _ {text : List ℕ} {room at : ℕ} {n : Count} (g : SurveySoFar text roo
   abbrev here : ℕ
   here = get_or text at 0
 
-  on_by_class : (k : Class) → class here ≡ k → (m : Count) → stepped n k at room ≡ On m → SurveySoFar text room m (at + 1)
+  on_by_class : (k : Class) → class here ≡ k → (m : Count) → stepped n k at room ≡ Ok (On m) → SurveySoFar text room m (at + 1)
   unfolding stepped without_marks
   on_by_class (OPERATOR o) c m e =
       subst (λ x. SurveySoFar text room x (at + 1)) (on_injective e)
@@ -168,7 +174,7 @@ module _ {text : List ℕ} {room at : ℕ} {n : Count} (g : SurveySoFar text roo
       (ap length (kept here [] (λ z. clash (sym c ∙ z) tt) (λ z. clash (sym c ∙ z) tt))) (rw c tt))
   on_by_class CLOSE c m e = go (eqb n.depth 0) refl e
     where
-      go : (t : Bool) → eqb n.depth 0 ≡ t → cond t (Stop (Unmatched (place at))) (On (closed n)) ≡ On m → SurveySoFar text room m (at + 1)
+      go : (t : Bool) → eqb n.depth 0 ≡ t → cond t (Err (Unmatched (place at))) (Ok (On (closed n))) ≡ Ok (On m) → SurveySoFar text room m (at + 1)
       go true h e = stop_is_not_on e
       go false h e =
           let differ : n.depth ≢ 0 = eqb-false n.depth 0 h in
@@ -184,35 +190,35 @@ module _ {text : List ℕ} {room at : ℕ} {n : Count} (g : SurveySoFar text roo
   on_by_class BAD c m e = stop_is_not_on e
 
   -- one byte that is no fault
-  pub survey_on : (m : Count) → On m ≡ stepped n (class here) at room → SurveySoFar text room m (at + 1)
+  pub survey_on : (m : Count) → Ok (On m) ≡ stepped n (class here) at room → SurveySoFar text room m (at + 1)
   survey_on m e = on_by_class (class here) refl m (sym e)
 
   -- a fault at this place is what reading refuses
-  pub refused-here : {r : TextFault} → Fault token_limit at here (drop (suc at) text) n.depth r → FaultyText r ≡ surveyed room (read_bytes token_limit text)
+  pub refused-here : {r : TextFault} → Fault token_limit at here (drop (suc at) text) n.depth r → Err r ≡ surveyed room (read_bytes token_limit text)
   unfolding surveyed
   refused-here {r} f =
       rw (faulty_read {limit = token_limit}
       (first_fault_there (take at text) (drop (suc at) text) here (split_at text at 0 inside) g.clean
       (subst (λ k. Fault token_limit k here (drop (suc at) text) n.depth r) (sym (length-take-le at text g.within)) f)))
 
-  stop_by_class : (k : Class) → class here ≡ k → (r : TextFault) → stepped n k at room ≡ Stop r → FaultyText r ≡ surveyed room (read_bytes token_limit text)
+  stop_by_class : (k : Class) → class here ≡ k → (r : TextFault) → stepped n k at room ≡ Err r → Err r ≡ surveyed room (read_bytes token_limit text)
   unfolding stepped
   stop_by_class (OPERATOR o) c r e = stop_is_not_on (sym e)
   stop_by_class OPEN c r e = stop_is_not_on (sym e)
   stop_by_class CLOSE c r e = go (eqb n.depth 0) refl e
     where
-      go : (t : Bool) → eqb n.depth 0 ≡ t → cond t (Stop (Unmatched (place at))) (On (closed n)) ≡ Stop r
-          → FaultyText r ≡ surveyed room (read_bytes token_limit text)
+      go : (t : Bool) → eqb n.depth 0 ≡ t → cond t (Err (Unmatched (place at))) (Ok (On (closed n))) ≡ Err r
+          → Err r ≡ surveyed room (read_bytes token_limit text)
       go true h e =
-          subst (λ s. FaultyText s ≡ surveyed room (read_bytes token_limit text)) (stop_injective e)
+          subst (λ s. Err s ≡ surveyed room (read_bytes token_limit text)) (stop_injective e)
           (refused-here (rw (eqb-true n.depth 0 h) (unmatched c)))
       go false h e = stop_is_not_on (sym e)
   stop_by_class BRACE c r e = token_is_not_stop e
   stop_by_class BLANK c r e = stop_is_not_on (sym e)
   stop_by_class BAD c r e =
-      subst (λ s. FaultyText s ≡ surveyed room (read_bytes token_limit text)) (stop_injective e) (refused-here (bad_byte c))
+      subst (λ s. Err s ≡ surveyed room (read_bytes token_limit text)) (stop_injective e) (refused-here (bad_byte c))
 
-  pub survey_stop : (r : TextFault) → Stop r ≡ stepped n (class here) at room → FaultyText r ≡ surveyed room (read_bytes token_limit text)
+  pub survey_stop : (r : TextFault) → Err r ≡ stepped n (class here) at room → Err r ≡ surveyed room (read_bytes token_limit text)
   survey_stop r e = stop_by_class (class here) refl r (sym e)
 
 -- the end of the text
@@ -242,10 +248,10 @@ survey_end {text} {room} {at} {n} g ended = go (ltb 0 n.depth) refl
         ap place (g.none_past few ∙ sym (get_or-eq_default (labels p) 0 (omega (arith, length-labels p))))
 
     go : (s : Bool) → ltb 0 n.depth ≡ s
-        → cond s (FaultyText (Unclosed (place at))) (Counted n.cells n.length n.overfull) ≡ surveyed room (read_bytes token_limit text)
+        → cond s (Err (Unclosed (place at))) (Ok (counted_of n.cells n.length n.overfull)) ≡ surveyed room (read_bytes token_limit text)
     go true h =
         let deep : n.depth ≡ suc (n.depth - 1) = (let some_open = ltb-true 0 n.depth h in omega arith) in
-        rw (faulty_read {limit = token_limit} (unclosed (rw deep at whole))) (ap (λ k. FaultyText (Unclosed (place k))) last)
+        rw (faulty_read {limit = token_limit} (unclosed (rw deep at whole))) (ap (λ k. Err (Unclosed (place k))) last)
     go false h =
         let closed_all : n.depth ≡ 0 = (let some = ltb-false 0 n.depth h in omega arith) in
         let r = text-read (rw closed_all at whole) in

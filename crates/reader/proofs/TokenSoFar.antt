@@ -14,15 +14,15 @@ use lib.Seq.{drop-cons, drop-drop, get_or-drop, length-take-le, split_at, take-a
 use borrow.Author.Tests.{eqb-true, eqb-false, leb-true, leb-false}
 use Rattle.kinds.specs.Limits.{token_limit}
 use Rattle.kinds.specs.declared.Place.{Place}
+use Rattle.std.specs.Prelude.{Option, Some, None, Result, Ok, Err}
 use Rattle.plan.specs.Plan.{open_brace, close_brace}
-use Rattle.plan.specs.Token.{KeptToken, allowed, annotation, character, may_hold}
+use Rattle.plan.specs.Token.{KeptToken, allowed, annotation, character, may_hold, whole}
 use Rattle.plan.specs.TokenFaults.{FirstFault, unheld}
 use Rattle.plan.specs.Reading.{an_annotation, class, mark, place, read_bytes, without_marks}
 use Rattle.plan.specs.declared.Class.{Class}
 use Rattle.plan.specs.declared.Class.TheVariants.{Operator as OPERATOR, Open as OPEN, Close as CLOSE, Brace as BRACE, Blank as BLANK, Bad as BAD}
 use Rattle.plan.specs.Refusals.{nothing, a_token, bad_token}
 use Rattle.plan.specs.declared.Character.{Character}
-use Rattle.plan.specs.declared.Character.TheVariants.{Whole, Malformed}
 use Rattle.plan.specs.declared.TextFault.TheVariants.{BadToken, Unmatched}
 use Rattle.plan.specs.declared.TokenFault.{TokenFault}
 use Rattle.plan.specs.declared.TokenFault.TheVariants.{Empty, Long, BadUtf8, Forbidden, InnerBrace}
@@ -39,44 +39,46 @@ use Rattle.tokens.specs.InToken.{token_faulty, in_character, in_token}
 use Rattle.reader.specs.declared.Count.{Count}
 use Rattle.tokens.specs.declared.InToken.{InToken}
 use Rattle.tokens.specs.declared.InToken.TheVariants.{Further, Ends}
-use Rattle.tokens.specs.declared.TokenRead.TheVariants.{Whole as WholeToken, Faulty}
-use Rattle.reader.specs.declared.ByteStep.TheVariants.{On, Token, Stop}
-use Rattle.reader.specs.declared.Surveyed.TheVariants.{Faulty as FaultyText}
+use Rattle.tokens.specs.declared.FaultyToken.{FaultyToken}
+use Rattle.reader.specs.declared.ByteStep.TheVariants.{On, Token}
 use Rattle.reader.proofs.SurveySoFar.{SurveySoFar, item_more, mark_more, refused-here, token_is_not_on, token_is_not_stop}
+
+abbrev faulty : TokenFault → Place → Result (Unit {0}) FaultyToken
+faulty f p = Err (record { fault = f; at = p })
 
 -- what an answer says of the next byte of the token whose `{` is at `start`
 data NextSays (limit start at : ℕ) (text : List ℕ) : InToken → Type 0 where
   text_end : length text ≤ at → NextSays limit start at text (token_faulty Long (length text))
   empty : at < length text → get_or text at 0 ≡ close_brace → at ≡ start + 1 → NextSays limit start at text (token_faulty Empty at)
-  ends : at < length text → get_or text at 0 ≡ close_brace → at ≢ start + 1 → NextSays limit start at text (Ends WholeToken)
+  ends : at < length text → get_or text at 0 ≡ close_brace → at ≢ start + 1 → NextSays limit start at text (Ends (Ok tt))
   over : at < length text → get_or text at 0 ≢ close_brace → at ≡ start + (limit - 1) → NextSays limit start at text (token_faulty Long at)
-  malformed : at < length text → at ≢ start + (limit - 1) → character (drop at text) ≡ Malformed → NextSays limit start at text (token_faulty BadUtf8 at)
+  malformed : at < length text → at ≢ start + (limit - 1) → character (drop at text) ≡ None → NextSays limit start at text (token_faulty BadUtf8 at)
   unheld_character : {v w : ℕ} {f : TokenFault} → get_or text at 0 ≢ close_brace → at ≢ start + (limit - 1)
-      → character (drop at text) ≡ Whole v w → may_hold v ≡ false → unheld v ≡ f → NextSays limit start at text (token_faulty f at)
-  reaching : {v w last : ℕ} → character (drop at text) ≡ Whole v w → may_hold v ≡ true → last ≡ start + (limit - 1) → last ≤ at + (w - 1)
+      → character (drop at text) ≡ Some (whole v w) → may_hold v ≡ false → unheld v ≡ f → NextSays limit start at text (token_faulty f at)
+  reaching : {v w last : ℕ} → character (drop at text) ≡ Some (whole v w) → may_hold v ≡ true → last ≡ start + (limit - 1) → last ≤ at + (w - 1)
       → NextSays limit start at text (token_faulty Long last)
-  further : {v w : ℕ} → character (drop at text) ≡ Whole v w → may_hold v ≡ true → at + (w - 1) < start + (limit - 1)
+  further : {v w : ℕ} → character (drop at text) ≡ Some (whole v w) → may_hold v ≡ true → at + (w - 1) < start + (limit - 1)
       → NextSays limit start at text (Further w)
 
 module _ (limit start at : ℕ) (text : List ℕ) where
-  said_character : (l : at < length text) → get_or text at 0 ≢ close_brace → at ≢ start + (limit - 1) → (x : Character) → character (drop at text) ≡ x
+  said_character : (l : at < length text) → get_or text at 0 ≢ close_brace → at ≢ start + (limit - 1) → (x : Option Character) → character (drop at text) ≡ x
       → NextSays limit start at text (in_character (start + (limit - 1)) at x)
   unfolding in_character
-  said_character l c n Malformed e = malformed l n e
-  said_character l c n (Whole v w) e =
-      go (eqb v open_brace) refl (may_hold v) refl (leb (start + (limit - 1)) (at + (w - 1))) refl
+  said_character l c n None e = malformed l n e
+  said_character l c n (Some k) e =
+      go (eqb k.value open_brace) refl (may_hold k.value) refl (leb (start + (limit - 1)) (at + (k.width - 1))) refl
     where
-      other : v ≢ close_brace
-      other z = c (sym (ap (λ k. get_or text k 0) (add-zero at)) ∙ sym (get_or-drop at text 0 0) ∙ low_byte (drop at text) (omega arith) e ∙ z)
+      other : k.value ≢ close_brace
+      other z = c (sym (ap (λ i. get_or text i 0) (add-zero at)) ∙ sym (get_or-drop at text 0 0) ∙ low_byte (drop at text) (omega arith) e ∙ z)
 
-      go : (a : Bool) → eqb v open_brace ≡ a → (b : Bool) → may_hold v ≡ b → (d : Bool) → leb (start + (limit - 1)) (at + (w - 1)) ≡ d
-          → NextSays limit start at text (cond a (token_faulty InnerBrace at) (cond b (cond d (token_faulty Long (start + (limit - 1))) (Further w)) (token_faulty Forbidden at)))
+      go : (a : Bool) → eqb k.value open_brace ≡ a → (b : Bool) → may_hold k.value ≡ b → (d : Bool) → leb (start + (limit - 1)) (at + (k.width - 1)) ≡ d
+          → NextSays limit start at text (cond a (token_faulty InnerBrace at) (cond b (cond d (token_faulty Long (start + (limit - 1))) (Further k.width)) (token_faulty Forbidden at)))
       go true a b b' d d' =
-          let is : v ≡ open_brace = eqb-true _ _ a in
-          unheld_character c n e (sym (opening v is)) (ap unheld is ∙ open_unheld)
+          let is : k.value ≡ open_brace = eqb-true _ _ a in
+          unheld_character c n e (sym (opening k.value is)) (ap unheld is ∙ open_unheld)
       go false a true b true d = reaching e b refl (leb-true _ _ d)
       go false a true b false d = further e b (leb-false _ _ d)
-      go false a false b d d' = unheld_character c n e b (sym (forbidden_unheld v (eqb-false _ _ a) other))
+      go false a false b d d' = unheld_character c n e b (sym (forbidden_unheld k.value (eqb-false _ _ a) other))
 
   said : NextSays limit start at text (in_token limit start at text)
   unfolding in_token
@@ -84,7 +86,7 @@ module _ (limit start at : ℕ) (text : List ℕ) where
     where
       go : (a : Bool) → leb (length text) at ≡ a → (b : Bool) → eqb (get_or text at 0) close_brace ≡ b → (c : Bool) → eqb at (start + 1) ≡ c
           → (d : Bool) → eqb at (start + (limit - 1)) ≡ d
-          → NextSays limit start at text (cond a (token_faulty Long (length text)) (cond b (cond c (token_faulty Empty at) (Ends WholeToken))
+          → NextSays limit start at text (cond a (token_faulty Long (length text)) (cond b (cond c (token_faulty Empty at) (Ends (Ok tt)))
           (cond d (token_faulty Long at) (in_character (start + (limit - 1)) at (character (drop at text))))))
       go true a b b' c c' d d' = text_end (leb-true _ _ a)
       go false a true b true c d d' = empty (leb-false _ _ a) (eqb-true _ _ b) (eqb-true _ _ c)
@@ -108,13 +110,13 @@ pub record TokenSoFar (text : List ℕ) (room : ℕ) (n : Count) (at end : ℕ) 
   pub scanned : Taken (part text at end)
   pub few : end < at + token_limit
 
-token_by_class : (n : Count) (k : Class) (at room : ℕ) → stepped n k at room ≡ Token → k ≡ BRACE
+token_by_class : (n : Count) (k : Class) (at room : ℕ) → stepped n k at room ≡ Ok Token → k ≡ BRACE
 unfolding stepped
 token_by_class n (OPERATOR o) at room e = token_is_not_on (sym e)
 token_by_class n OPEN at room e = token_is_not_on (sym e)
 token_by_class n CLOSE at room e = go (eqb n.depth 0) e
   where
-    go : (t : Bool) → cond t (Stop (Unmatched (place at))) (On (closed n)) ≡ Token → CLOSE ≡ BRACE
+    go : (t : Bool) → cond t (Err (Unmatched (place at))) (Ok (On (closed n))) ≡ Ok Token → CLOSE ≡ BRACE
     go true e = token_is_not_stop (sym e)
     go false e = token_is_not_on (sym e)
 token_by_class n BRACE at room e = refl
@@ -122,7 +124,7 @@ token_by_class n BLANK at room e = token_is_not_on (sym e)
 token_by_class n BAD at room e = token_is_not_stop (sym e)
 
 pub inside_start : {text : List ℕ} {room at : ℕ} {n : Count} → SurveySoFar text room n at → at < length text
-    → Token ≡ stepped n (class (get_or text at 0)) at room → TokenSoFar text room n at (at + 1)
+    → Ok Token ≡ stepped n (class (get_or text at 0)) at room → TokenSoFar text room n at (at + 1)
 inside_start {text} {room} {at} {n} g h e =
     let none_passed : at + 1 - at - 1 ≡ 0 = omega arith in
     record {
@@ -155,10 +157,10 @@ module _ {text : List ℕ} {room at end : ℕ} {n : Count} (i' : TokenSoFar text
 
   -- what comes behind the `{` has a first fault: it is what reading refuses, at its own place
   refused_token : {f g : TokenFault} {k : ℕ} {p : Place} (j : ℕ) → FirstFault token_limit (part text at end ++ drop end text) j f → k ≡ suc at + j
-      → token_faulty f k ≡ Ends (Faulty g p) → FaultyText (BadToken g p) ≡ surveyed room (read_bytes token_limit text)
+      → token_faulty f k ≡ Ends (faulty g p) → Err (BadToken g p) ≡ surveyed room (read_bytes token_limit text)
   refused_token {f} {g} {k} {p} j first h e =
-      let same : BadToken g p ≡ BadToken f (place k) = cc in
-      ap (λ t. FaultyText t) (same ∙ ap (λ q. BadToken f (place q)) h)
+      let found : record { fault = f; at = place k } ≡ record { fault = g; at = p } = cc in
+      ap (λ (t : FaultyToken). Err (BadToken t.fault t.at)) (sym found) ∙ ap (λ q. Err (BadToken f (place q))) h
       ∙ refused-here i'.survey i'.starts (bad_token i'.brace (subst (λ us. FirstFault token_limit us j f) (sym bytes_after) first))
 
   room_left : length (part text at end) ≤ token_limit - 2
@@ -175,11 +177,11 @@ module _ {text : List ℕ} {room at end : ℕ} {n : Count} (i' : TokenSoFar text
 
   -- the same of a fault at the next byte
   refused-next : {f g : TokenFault} {k : ℕ} {p : Place} → FirstFault token_limit (part text at end ++ drop end text) (length (part text at end)) f
-      → k ≡ end → token_faulty f k ≡ Ends (Faulty g p) → FaultyText (BadToken g p) ≡ surveyed room (read_bytes token_limit text)
+      → k ≡ end → token_faulty f k ≡ Ends (faulty g p) → Err (BadToken g p) ≡ surveyed room (read_bytes token_limit text)
   refused-next first h = refused_token (length (part text at end)) first (omega (arith, h, taken, i'.ahead))
 
-  faults : {a : InToken} {f : TokenFault} {p : Place} → NextSays token_limit at end text a → a ≡ Ends (Faulty f p)
-      → FaultyText (BadToken f p) ≡ surveyed room (read_bytes token_limit text)
+  faults : {a : InToken} {f : TokenFault} {p : Place} → NextSays token_limit at end text a → a ≡ Ends (faulty f p)
+      → Err (BadToken f p) ≡ surveyed room (read_bytes token_limit text)
   faults (text_end l) e =
       refused-next (rw (drop_of_length-le text l) (ends_first i'.scanned room_left)) (omega (arith, i'.within)) e
   faults (empty l c z) e =
@@ -200,9 +202,9 @@ module _ {text : List ℕ} {room at end : ℕ} {n : Count} (i' : TokenSoFar text
       (omega arith) e
   faults (further x h l) e = never cc
 
-  pub inside_faulty : (f : TokenFault) (p : Place) → Ends (Faulty f p) ≡ in_token token_limit at end text
-      → FaultyText (BadToken f p) ≡ surveyed room (read_bytes token_limit text)
-  inside_faulty f p e = faults (said token_limit at end text) (sym e)
+  pub inside_faulty : (t : FaultyToken) → Ends (Err t) ≡ in_token token_limit at end text
+      → Err (BadToken t.fault t.at) ≡ surveyed room (read_bytes token_limit text)
+  inside_faulty t e = faults (said token_limit at end text) (sym e)
 
   goes_on : (w : ℕ) {a : InToken} → NextSays token_limit at end text a → a ≡ Further w → (1 ≤ w) × TokenSoFar text room n at (end + w)
   goes_on w (text_end l) e = never cc
@@ -231,7 +233,7 @@ module _ {text : List ℕ} {room at end : ℕ} {n : Count} (i' : TokenSoFar text
   pub inside_further : (w : ℕ) → Further w ≡ in_token token_limit at end text → (1 ≤ w) × TokenSoFar text room n at (end + w)
   inside_further w e = goes_on w (said token_limit at end text) (sym e)
 
-  closing : {a : InToken} → NextSays token_limit at end text a → a ≡ Ends WholeToken
+  closing : {a : InToken} → NextSays token_limit at end text a → a ≡ Ends (Ok tt)
       → (end < length text) × (drop end text ≡ close_brace ∷ drop (suc end) text) × (1 ≤ end - at - 1)
   closing (text_end l) e = never cc
   closing (empty l c z) e = never cc
@@ -286,7 +288,7 @@ module _ {text : List ℕ} {room at end : ℕ} {n : Count} (i' : TokenSoFar text
       (rw i'.brace (told_behind fine ∙ h))
 
   -- where it stands
-  pub inside_ends : Ends WholeToken ≡ in_token token_limit at end text → TokenEnds text at end
+  pub inside_ends : Ends (Ok tt) ≡ in_token token_limit at end text → TokenEnds text at end
   inside_ends e =
       record {
         inside = (closing (said token_limit at end text) (sym e)).0;
@@ -295,7 +297,7 @@ module _ {text : List ℕ} {room at end : ℕ} {n : Count} (i' : TokenSoFar text
         short = i'.survey.short;
       }
 
-  pub inside_close : (m : Count) → Ends WholeToken ≡ in_token token_limit at end text
+  pub inside_close : (m : Count) → Ends (Ok tt) ≡ in_token token_limit at end text
       → m ≡ kept_or_passed (mark (class (get_or text at 0)) (drop (at + 1) text)) n at room (end + 1 - at)
       → SurveySoFar text room m (end + 1)
   unfolding mark

@@ -7,14 +7,13 @@
 ghost use Rattle.std.specs.Prelude.{◌≡◌, ◌+◌, ◌-◌, ◌<◌, ◌≤◌, length, get_or, drop};
 ghost use Rattle.kinds.specs.Limits.{text_limit, token_limit};
 ghost use Rattle.plan.specs.Reading.{class, mark, read_bytes};
-ghost use Rattle.plan.specs.declared.Class.TheVariants.{Close as CLOSE};
 ghost use Rattle.text.specs.TokenEnds.{TokenEnds};
-ghost use Rattle.reader.specs.Counting.{Small, nothing_yet, one_item, opened, stepped, kept_or_passed, survey_ended, surveyed};
+ghost use Rattle.reader.specs.Counting.{Small, nothing_yet, one_item, opened, block_closed, stepped, kept_or_passed, survey_ended, surveyed};
 
 use kinds::{Place, Token};
-use plan::{Class, TextFault};
+use plan::{Class, Size, TextFault};
 use text::{class_of, is_mark};
-use tokens::{InToken, TokenRead, token_byte};
+use tokens::{FaultyToken, InToken, token_byte};
 
 // What was counted so far: blocks open, items begun, bytes that will be printed, and the place of the first item past
 // the room, once there is one.
@@ -26,101 +25,91 @@ pub struct Count {
     pub overfull: Place,
 }
 
-// What one byte outside tokens does.
+// What one byte outside tokens does, where it is no fault.
 #[derive(Clone, Copy)]
 pub enum ByteStep {
     On(Count),
     Token,
-    Stop(TextFault),
 }
 
-// What a text is found to be.
+// What a text without a fault is found to be: how large its plan is, and where the first item past the room begins, once there is one.
 #[derive(Clone, Copy)]
-pub enum Surveyed {
-    // No fault: its cells, its printed bytes, and where the first item past the room begins, once there is one.
-    Counted {
-        cells: u32,
-        length: u32,
-        overfull: Place,
-    },
-    Faulty(TextFault),
+pub struct Counted {
+    pub size: Size,
+    pub overfull: Place,
 }
 
-fn nothing_yet() -> Count
-    ensures { result ≡ nothing_yet }
-{
-    Count {
-        depth: 0,
-        cells: 0,
-        length: 0,
-        overfull: Place::new(0),
+impl Count {
+    fn nothing_yet() -> Count
+        ensures { result ≡ nothing_yet }
+    {
+        Count {
+            depth: 0,
+            cells: 0,
+            length: 0,
+            overfull: Place::new(0),
+        }
     }
-}
 
-// One item more, of so many bytes. A block's contents are not among these bytes.
-fn one_item(count: Count, at: usize, room: u32, bytes: u32) -> Count
-    requires { Small count × (at ≤ text_limit) × (bytes ≤ token_limit) }
-    ensures { result ≡ one_item count at room bytes }
-{
-    let cells = count.cells;
-    let overfull = count.overfull;
-    if cells == room {
-        return Count {
-            depth: count.depth,
-            cells: cells + 1,
-            length: count.length + bytes,
-            overfull: Place::new(at),
+    // One item more, of so many bytes. A block's contents are not among these bytes.
+    fn one_item(self, at: usize, room: u32, bytes: u32) -> Count
+        requires { Small self × (at ≤ text_limit) × (bytes ≤ token_limit) }
+        ensures { result ≡ one_item self at room bytes }
+    {
+        let overfull = if self.cells == room {
+            Place::new(at)
+        } else {
+            self.overfull
         };
+        Count {
+            cells: self.cells + 1,
+            length: self.length + bytes,
+            overfull,
+            ..self
+        }
     }
-    Count {
-        depth: count.depth,
-        cells: cells + 1,
-        length: count.length + bytes,
-        overfull,
+
+    // A block is an item of one byte, its `[`, and is open from there on.
+    fn open_block(self, at: usize, room: u32) -> Count
+        requires { Small self × (at ≤ text_limit) }
+        ensures { result ≡ opened self at room }
+    {
+        let item = self.one_item(at, room, 1);
+        Count {
+            depth: item.depth + 1,
+            ..item
+        }
+    }
+
+    // The last `[` of those open has its `]`.
+    fn close_block(self, at: usize) -> Result<Count, TextFault>
+        requires { Small self × (at ≤ text_limit) }
+        ensures { result ≡ block_closed self at }
+    {
+        if self.depth == 0 {
+            return Err(TextFault::Unmatched(Place::new(at)));
+        }
+        Ok(Count {
+            depth: self.depth - 1,
+            length: self.length + 1,
+            ..self
+        })
     }
 }
 
-fn open_block(count: Count, at: usize, room: u32) -> Count
-    requires { Small count × (at ≤ text_limit) }
-    ensures { result ≡ opened count at room }
-{
-    let item = one_item(count, at, room, 1);
-    let overfull = item.overfull;
-    Count {
-        depth: item.depth + 1,
-        cells: item.cells,
-        length: item.length,
-        overfull,
-    }
-}
-
-fn close_block(count: Count, at: usize, room: u32) -> ByteStep
-    requires { Small count × (at ≤ text_limit) }
-    ensures { result ≡ stepped count CLOSE at room }
-{
-    if count.depth == 0 {
-        return ByteStep::Stop(TextFault::Unmatched(Place::new(at)));
-    }
-    let overfull = count.overfull;
-    ByteStep::On(Count {
-        depth: count.depth - 1,
-        cells: count.cells,
-        length: count.length + 1,
-        overfull,
-    })
-}
-
-fn read_byte(count: Count, byte: u8, at: usize, room: u32) -> ByteStep
+// One byte outside tokens, by its class.
+#[tactic(auto, unfolding(crate::specs::Counting::stepped))]
+fn read_byte(count: Count, byte: u8, at: usize, room: u32) -> Result<ByteStep, TextFault>
     requires { Small count × (at ≤ text_limit) }
     ensures { result ≡ stepped count (class byte) at room }
 {
     match class_of(byte) {
-        Class::Operator(_) => ByteStep::On(one_item(count, at, room, 1)),
-        Class::Open => ByteStep::On(open_block(count, at, room)),
-        Class::Close => close_block(count, at, room),
-        Class::Brace => ByteStep::Token,
-        Class::Blank => ByteStep::On(count),
-        Class::Bad => ByteStep::Stop(TextFault::BadByte(Place::new(at))),
+        Class::Operator(_) => Ok(ByteStep::On(count.one_item(at, room, 1))),
+        Class::Open => Ok(ByteStep::On(count.open_block(at, room))),
+        Class::Close => Ok(ByteStep::On(count.close_block(at)?)),
+        Class::Brace => Ok(ByteStep::Token),
+        Class::Blank => Ok(ByteStep::On(count)),
+        Class::Bad => Err(TextFault::BadByte(Place::new(at))),
     }
 }
 
@@ -130,50 +119,55 @@ fn whole_token(text: &[u8], count: Count, at: usize, end: usize, room: u32) -> C
     ensures { result ≡ kept_or_passed (mark (class (get_or text.now at 0)) (drop (at + 1) text.now)) count at room (end + 1 - at) }
 {
     if is_mark(text, at) {
-        return count;
+        count
+    } else {
+        count.one_item(at, room, (end + 1 - at) as u32)
     }
-    one_item(count, at, room, (end + 1 - at) as u32)
 }
 
 // The end of the text.
-fn end_survey(count: Count, at: usize) -> Surveyed
+#[tactic(auto, unfolding(crate::specs::Counting::survey_ended))]
+fn end_survey(count: Count, at: usize) -> Result<Counted, TextFault>
     requires { at ≤ text_limit }
     ensures { result ≡ survey_ended count at }
 {
     if 0 < count.depth {
-        return Surveyed::Faulty(TextFault::Unclosed(Place::new(at)));
+        return Err(TextFault::Unclosed(Place::new(at)));
     }
-    let overfull = count.overfull;
-    Surveyed::Counted {
-        cells: count.cells,
-        length: count.length,
+    let Count {
+        cells,
+        length,
         overfull,
-    }
+        ..
+    } = count;
+    Ok(Counted {
+        size: Size { cells, length },
+        overfull,
+    })
 }
 
-pub fn survey(text: &[u8], room: u32) -> Surveyed
+pub fn survey(text: &[u8], room: u32) -> Result<Counted, TextFault>
     requires { length text.now ≤ text_limit }
     ensures { result ≡ surveyed room (read_bytes token_limit text.now) }
 {
-    let mut count = nothing_yet();
-    let mut at: usize = 0;
+    let mut count = Count::nothing_yet();
+    let mut at = 0;
     let fault = 'items: loop {
         if text.len() <= at {
             return end_survey(count, at);
         }
         match read_byte(count, text[at], at, room) {
-            ByteStep::On(next) => {
+            Ok(ByteStep::On(next)) => {
                 count = next;
                 at += 1;
             }
-            ByteStep::Stop(fault) => break 'items fault,
-            ByteStep::Token => {
+            Ok(ByteStep::Token) => {
                 let mut end = at + 1;
                 loop {
                     match token_byte(text, at, end) {
                         InToken::Further(width) => end += width as usize,
                         InToken::Ends(token) => {
-                            let TokenRead::Faulty { fault, at } = token else {
+                            let Err(FaultyToken { fault, at }) = token else {
                                 break;
                             };
                             break 'items TextFault::BadToken { fault, at };
@@ -183,7 +177,8 @@ pub fn survey(text: &[u8], room: u32) -> Surveyed
                 count = whole_token(text, count, at, end, room);
                 at = end + 1;
             }
+            Err(fault) => break 'items fault,
         }
     };
-    Surveyed::Faulty(fault)
+    Err(fault)
 }

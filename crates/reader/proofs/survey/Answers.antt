@@ -17,13 +17,13 @@ read_byte-requires c = (
   omega (arith, c.items.invariant.within, c.items.invariant.short),
 )
 
-pub items-preserved-in-On : goal.items-preserved-in-On
-items-preserved-in-On c =
-    survey_on c.items.invariant c.if-text-at.false _ (sym c.in-On.is ∙ c.read_byte.ensures)
+pub items-preserved-in-Ok-On : goal.items-preserved-in-Ok-On
+items-preserved-in-Ok-On c =
+    survey_on c.items.invariant c.if-text-at.false _ (rw c.in-Ok-On.field-0-is at c.in-Ok-On.ensures)
 
 pub loop-width-init : goal.loop-width-init
 loop-width-init c =
-    inside_start c.items.invariant c.if-text-at.false (sym c.in-Token.is ∙ c.read_byte.ensures)
+    inside_start c.items.invariant c.if-text-at.false (rw c.in-Ok-Token.field-0-is at c.in-Ok-Token.ensures)
 
 pub loop-width-smaller : goal.loop-width-smaller
 loop-width-smaller c =
@@ -46,11 +46,11 @@ items-preserved c =
     inside_close c.loop-width.invariant _
     (sym (c.in-Ends.is ∙ ap Ends c.in_default.is) ∙ c.token_byte.ensures) c.whole_token-count.ensures
 
-pub returns-in-Stop : goal.returns-in-Stop
-returns-in-Stop c =
-    survey_stop c.items.invariant c.if-text-at.false _ (sym c.in-Stop.is ∙ c.read_byte.ensures)
+pub returns-in-Err : goal.returns-in-Err
+returns-in-Err c =
+    survey_stop c.items.invariant c.if-text-at.false _ (sym c.in-Err.is ∙ c.read_byte.ensures)
 
-pub returns-in-Faulty : goal.returns-in-Faulty
-returns-in-Faulty c =
-    inside_faulty c.loop-width.invariant c.in-Faulty.fault c.in-Faulty.at
-    (sym (c.in-Ends.is ∙ ap Ends c.in-Faulty.is) ∙ c.token_byte.ensures)
+pub returns-in-Err-token : goal.returns-in-Err-token
+returns-in-Err-token c =
+    inside_faulty c.loop-width.invariant _
+    (sym (c.in-Ends.is ∙ ap Ends c.in-Err-token.is) ∙ c.token_byte.ensures)
