@@ -8,22 +8,17 @@ use borrow.Author.Tests.{eqb-false, eqb-true, not-true}
 use lib.Dec.{eqb, leb}
 use lib.ListN.{length, drop}
 use lib.Seq.{drop-cons, drop-length}
-use Rattle.kinds.specs.Limits.{Limits, standard, token_limit}
-use Rattle.plan.specs.Pieces.{Shows, pieces}
+use Rattle.kinds.specs.Limits.{Limits, standard}
+use Rattle.std.specs.Prelude.{None, Some}
 use Rattle.plan.specs.Read.{acceptable}
-use Rattle.plan.specs.Token.{allowed}
-use Rattle.plan.proofs.Acceptable.{acceptable_plan}
 use Rattle.kinds.proofs.Tests.{and_true}
-use Rattle.plan.proofs.Tokens.{allowed-parts}
 use Rattle.stored.specs.Counted.{AtFront, CUT, FRONT}
 use Rattle.stored.specs.Places.{two_counted_at}
 use Rattle.stored.specs.Spans.{part}
 use Rattle.stored.specs.declared.Span.{Span}
-use Rattle.stored.specs.declared.TwoCountedAt.TheVariants.{Both}
 use Rattle.stored.proofs.Pairs.{two_counted_found}
 use Rattle.words_meaning.specs.Linking.{Word, listed, percent, stock_token}
 use Rattle.words_meaning.specs.Stock.{fits, is_name, name_limit, word}
-use Rattle.words_shelf.specs.Shelf.{Readable}
 use Rattle.words_meaning.proofs.Word.{word_found}
 use Rattle.words_check.specs.Checking.{FitThere, Fitting, fit_front, fitting, is_new_name, next_fitting}
 
@@ -36,7 +31,7 @@ module _ (list : List ℕ) (older : List Word) (at : ℕ) where
   unfit_cut e = ap (fit_front standard older) e
 
   -- its name and its text are whole
-  module _ {name text : Span} (found : two_counted_at list at ≡ Both name text) where
+  module _ {name text : Span} (found : two_counted_at list at ≡ Some (name, text)) where
     -- a word fits when its name is new and its text acceptable
     fit_parts : fit_front standard older (word (drop at list)) ≡ (is_new_name older (part list name) && acceptable standard (part list text))
     unfolding fit_front fits is_name
@@ -61,7 +56,7 @@ module _ (list : List ℕ) (older : List Word) (at : ℕ) where
           ∙ and-false (is_new_name older (part list name))
 
       -- both are right
-      pub fit-there : r ≡ true → {q : Bool} → q ≡ acceptable standard (part list text) → q ≡ true → FitThere list older at name text
+      pub fit-there : r ≡ true → {q : Bool} → q ≡ acceptable standard (part list text) → q ≡ true → FitThere list older at (record { name = name; text = text })
       unfolding fit_front
       fit-there e read_as h =
           record {
@@ -74,22 +69,15 @@ module _ (list : List ℕ) (older : List Word) (at : ℕ) where
 
 pub record FitWord (older : List Word) (w : Word) : Type 0 where
   pub new : listed (stock_token w) older ≡ false
-  pub short : length w.name ≤ name_limit
-  pub reads : Readable w.text
+  pub reads : acceptable standard w.text ≡ true
 
 -- a word that passes all the tests passes each
 pub fit_word : (older : List Word) (w : Word) → fits standard older w ≡ true → FitWord older w
-unfolding fits is_name
+unfolding fits
 fit_word older w e =
-    let (named, more) = and_true (is_name standard w.name) (not (listed (stock_token w) older) && acceptable standard w.text) e in
-    let (some, fine) = and_true (leb 1 (length w.name)) (allowed token_limit (stock_token w)) named in
+    let more = (and_true (is_name standard w.name) (not (listed (stock_token w) older) && acceptable standard w.text) e).1 in
     let (new, read) = and_true (not (listed (stock_token w) older)) (acceptable standard w.text) more in
-    let t = acceptable_plan standard w.text read in
-    record {
-      new = not-true (listed (stock_token w) older) new;
-      short = omega (arith, (allowed-parts token_limit (stock_token w) fine).1);
-      reads = record { short = t.short; shows = subst (λ p. Shows token_limit 0 w.text (pieces p)) (sym t.plan_is) t.shows };
-    }
+    record { new = not-true (listed (stock_token w) older) new; reads = read }
 
 -- Reading words that fit.
 

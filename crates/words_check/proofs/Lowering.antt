@@ -18,10 +18,9 @@ use Rattle.items.proofs.Walking.{passed_ahead}
 use Rattle.stored.specs.Same.{same}
 use Rattle.stored.proofs.Same.{same_false, same_true}
 use Rattle.words_meaning.specs.Linking.{holds}
-use Rattle.words_shelf.specs.Shelf.{Readable, Shelved, seek, seek_piece}
-use Rattle.words_shelf.specs.declared.Named.{Named}
-use Rattle.words_shelf.specs.declared.Named.TheVariants.{Unlisted, Listed}
-use Rattle.words_shelf.proofs.StandsFor.{shelved_below}
+use Rattle.words_shelf.specs.Shelf.{Readable, seek, seek_piece}
+use Rattle.words_shelf.specs.declared.WordAt.{WordAt}
+use Rattle.std.specs.Prelude.{Option, Some, None}
 use Rattle.words_check.specs.Checking.{OwnNames, lower, lowered}
 use Rattle.words_check.proofs.Ranks.{listed_told, token_names, token_of, tokens_apart}
 
@@ -53,31 +52,31 @@ module _ {L : Type 0} (t : List ℕ) where
   holds-among (token l u p) = ap (same t u ||◌) (holds-among p)
   holds-among (block l b p) = ap₂ ◌||◌ (holds-among b) (holds-among p) ∙ sym (among_append (pieces b) (END ∷ pieces p))
 
-module _ (list spans : List ℕ) where
+module _ (list : List ℕ) (words : List WordAt) where
   -- what one piece does to the bound
   data Lowers (t : List ℕ) (rank bound : ℕ) : ℕ → Type 0 where
-    leaves : ((u : ℕ) → rank ≤ u → u < bound → OwnNames list spans bound → t ≡ token_of list spans u → ⊥) → Lowers t rank bound bound
-    lowers : {found : ℕ} → rank ≤ found → found < bound → t ≡ token_of list spans found → Lowers t rank bound found
+    leaves : ((u : ℕ) → rank ≤ u → u < bound → OwnNames list words bound → t ≡ token_of list words u → ⊥) → Lowers t rank bound bound
+    lowers : {found : ℕ} → rank ≤ found → found < bound → t ≡ token_of list words found → Lowers t rank bound found
 
   -- a token that names no rank from the walked one on leaves the bound, and one that does lowers it to that rank
-  token_lowers : (t : List ℕ) (rank bound : ℕ) → Lowers t rank bound (lower (seek list spans bound t) rank bound)
-  token_lowers t rank bound = go (seek list spans bound t) refl
+  token_lowers : (t : List ℕ) (rank bound : ℕ) → Lowers t rank bound (lower (seek list words bound t) rank bound)
+  token_lowers t rank bound = go (seek list words bound t) refl
     where
-      other : (x : Named) → seek list spans bound t ≡ x → ((u : ℕ) → rank ≤ u → x ≡ Listed u → ⊥)
-          → (u : ℕ) → rank ≤ u → u < bound → OwnNames list spans bound → t ≡ token_of list spans u → ⊥
-      other x s no_such u g h own is = no_such u g (sym s ∙ ap (seek list spans bound) is ∙ token_names list spans bound own u h)
+      other : (x : Option ℕ) → seek list words bound t ≡ x → ((u : ℕ) → rank ≤ u → x ≡ Some u → ⊥)
+          → (u : ℕ) → rank ≤ u → u < bound → OwnNames list words bound → t ≡ token_of list words u → ⊥
+      other x s no_such u g h own is = no_such u g (sym s ∙ ap (seek list words bound) is ∙ token_names list words bound own u h)
 
-      named : (found : ℕ) → seek list spans bound t ≡ Listed found → (b : Bool) → ltb found rank ≡ b → Lowers t rank bound (cond b bound found)
+      named : (found : ℕ) → seek list words bound t ≡ Some found → (b : Bool) → ltb found rank ≡ b → Lowers t rank bound (cond b bound found)
       named found s true e =
           let below = ltb-true found rank e in
-          leaves (other (Listed found) s (λ u g h. let is : found ≡ u = cc in omega arith))
+          leaves (other (Some found) s (λ u g h. let is : found ≡ u = cc in omega arith))
       named found s false e =
-          let (less, is) = listed_told list spans bound t s in
+          let (less, is) = listed_told list words bound t s in
           lowers (ltb-false found rank e) less is
 
-      go : (x : Named) → seek list spans bound t ≡ x → Lowers t rank bound (lower x rank bound)
-      go Unlisted s = leaves (other Unlisted s (λ u g h. never cc))
-      go (Listed found) s = named found s (ltb found rank) refl
+      go : (x : Option ℕ) → seek list words bound t ≡ x → Lowers t rank bound (lower x rank bound)
+      go None s = leaves (other None s (λ u g h. never cc))
+      go (Some found) s = named found s (ltb found rank) refl
 
   -- either way the bound does not rise
   lowers_within : {t : List ℕ} {rank bound next : ℕ} → Lowers t rank bound next → next ≤ bound
@@ -85,58 +84,58 @@ module _ (list spans : List ℕ) where
   lowers_within (lowers g h is) = omega arith
 
   -- a bound that came down is the rank of the word that the token names
-  came_down : {t : List ℕ} {rank bound next : ℕ} → Lowers t rank bound next → next < bound → (rank ≤ next) × (t ≡ token_of list spans next)
+  came_down : {t : List ℕ} {rank bound next : ℕ} → Lowers t rank bound next → next < bound → (rank ≤ next) × (t ≡ token_of list words next)
   came_down (leaves h) less = absurd (omega arith)
   came_down (lowers g h is) less = (g, is)
 
   -- and the token names no rank between
-  not_named : {t : List ℕ} {rank bound next : ℕ} → Lowers t rank bound next → OwnNames list spans bound
-      → (u : ℕ) → rank ≤ u → u < next → t ≡ token_of list spans u → ⊥
+  not_named : {t : List ℕ} {rank bound next : ℕ} → Lowers t rank bound next → OwnNames list words bound
+      → (u : ℕ) → rank ≤ u → u < next → t ≡ token_of list words u → ⊥
   not_named (leaves h) own u g less is = h u g less own is
   not_named {bound = bound} (lowers {found} f h at) own u g less is =
-      let same_rank = tokens_apart list spans bound own found u h (omega arith) (sym at ∙ is) in
+      let same_rank = tokens_apart list words bound own found u h (omega arith) (sym at ∙ is) in
       omega arith
 
   module _ {L : Type 0} (rank : ℕ) where
     -- the bound only comes down
-    pub lowered_within : (ps : List (Piece L)) (bound : ℕ) → lowered list spans rank bound ps ≤ bound
+    pub lowered_within : (ps : List (Piece L)) (bound : ℕ) → lowered list words rank bound ps ≤ bound
     unfolding lowered
     lowered_within [] bound = omega arith
     lowered_within (OP l o ∷ ps) bound = lowered_within ps bound
     lowered_within (TOKEN l t ∷ ps) bound =
-        let next = lower (seek list spans bound t) rank bound in
+        let next = lower (seek list words bound t) rank bound in
         omega (arith, lowered_within ps next, lowers_within (token_lowers t rank bound))
     lowered_within (BEGIN l ∷ ps) bound = lowered_within ps bound
     lowered_within (END ∷ ps) bound = lowered_within ps bound
 
     -- no token of the pieces names a rank below it
-    pub lowered_clean : (ps : List (Piece L)) (bound : ℕ) → OwnNames list spans bound → (u : ℕ) → rank ≤ u → u < lowered list spans rank bound ps
-        → among (token_of list spans u) ps ≡ false
+    pub lowered_clean : (ps : List (Piece L)) (bound : ℕ) → OwnNames list words bound → (u : ℕ) → rank ≤ u → u < lowered list words rank bound ps
+        → among (token_of list words u) ps ≡ false
     unfolding lowered among
     lowered_clean [] bound own u g h = refl
     lowered_clean (OP l o ∷ ps) bound own u g h = lowered_clean ps bound own u g h
     lowered_clean (TOKEN l t ∷ ps) bound own u g h =
-        let next = lower (seek list spans bound t) rank bound in
+        let next = lower (seek list words bound t) rank bound in
         let one = token_lowers t rank bound in
         let more = lowered_clean ps next (λ r k. own r (omega (arith, lowers_within one))) u g h in
         let below : u < next = omega (arith, lowered_within ps next) in
-        ap₂ ◌||◌ (same_false (token_of list spans u) t (λ is. not_named one own u g below (sym is))) more
+        ap₂ ◌||◌ (same_false (token_of list words u) t (λ is. not_named one own u g below (sym is))) more
     lowered_clean (BEGIN l ∷ ps) bound own u g h = lowered_clean ps bound own u g h
     lowered_clean (END ∷ ps) bound own u g h = lowered_clean ps bound own u g h
 
     -- if it came down, a token of the pieces names it
-    pub lowered_found : (ps : List (Piece L)) (bound least : ℕ) → lowered list spans rank bound ps ≡ least → least < bound
-        → (rank ≤ least) × (among (token_of list spans least) ps ≡ true)
+    pub lowered_found : (ps : List (Piece L)) (bound least : ℕ) → lowered list words rank bound ps ≡ least → least < bound
+        → (rank ≤ least) × (among (token_of list words least) ps ≡ true)
     unfolding lowered among
     lowered_found [] bound least e h = absurd (omega arith)
     lowered_found (OP l o ∷ ps) bound least e h = lowered_found ps bound least e h
     lowered_found (TOKEN l t ∷ ps) bound least e h = go (ltb least next) refl (lowered_found ps next least e)
       where
         next : ℕ
-        next = lower (seek list spans bound t) rank bound
+        next = lower (seek list words bound t) rank bound
 
         u : List ℕ
-        u = token_of list spans least
+        u = token_of list words least
 
         go : (b : Bool) → ltb least next ≡ b → (least < next → (rank ≤ least) × (among u ps ≡ true))
             → (rank ≤ least) × ((same u t || among u ps) ≡ true)
@@ -144,38 +143,38 @@ module _ (list spans : List ℕ) where
         go false s more =
             let is : next ≡ least = omega (arith, ltb-false least next s, lowered_within ps next) in
             let (up, named) = came_down (token_lowers t rank bound) (omega arith) in
-            (omega arith, ap (◌|| among u ps) (same_true u t (sym (named ∙ ap (token_of list spans) is))))
+            (omega arith, ap (◌|| among u ps) (same_true u t (sym (named ∙ ap (token_of list words) is))))
     lowered_found (BEGIN l ∷ ps) bound least e h = lowered_found ps bound least e h
     lowered_found (END ∷ ps) bound least e h = lowered_found ps bound least e h
 
   -- What the loop over a text's pieces knows: those to come decide, from the bound that is left.
   pub record LeastSoFar (text : List ℕ) (rank bound least at : ℕ) : Type 0 where
-    pub shelved : Shelved list spans least
+    pub within : least ≤ bound
     pub ahead : ShowsAhead text at
-    pub decide : lowered list spans rank bound (pieces (plan_of token_limit text)) ≡ lowered list spans rank least ahead.come
+    pub decide : lowered list words rank bound (pieces (plan_of token_limit text)) ≡ lowered list words rank least ahead.come
 
   -- before any piece
-  pub least_first : {text : List ℕ} {bound : ℕ} (rank : ℕ) → Shelved list spans bound → Readable text → LeastSoFar text rank bound bound 0
-  least_first {text} rank s r =
-      record { shelved = s; ahead = record { short = r.short; come = pieces (plan_of token_limit text); shows = r.shows }; decide = refl }
+  pub least_first : {text : List ℕ} (rank bound : ℕ) → Readable text → LeastSoFar text rank bound bound 0
+  least_first {text} rank bound r =
+      record { within = omega arith; ahead = record { short = r.short; come = pieces (plan_of token_limit text); shows = r.shows }; decide = refl }
 
   module _ {text : List ℕ} {rank bound least at : ℕ} (inv : LeastSoFar text rank bound least at) where
     -- behind the last piece the bound is the least
-    pub least_last : inv.ahead.come ≡ [] → least ≡ lowered list spans rank bound (pieces (plan_of token_limit text))
+    pub least_last : inv.ahead.come ≡ [] → least ≡ lowered list words rank bound (pieces (plan_of token_limit text))
     unfolding lowered
-    least_last none = sym (inv.decide ∙ ap (lowered list spans rank least) none)
+    least_last none = sym (inv.decide ∙ ap (lowered list words rank least) none)
 
     -- the next piece
     module _ {k : CodePiece} {place rest : ℕ} (passed : Passed text at k place rest inv.ahead.come) where
       -- the bound that it leaves
-      pub least_on : {r : Named} {next : ℕ} → ((x : Piece ℕ) → Is text k x → r ≡ seek_piece list spans least x) → next ≡ lower r rank least
+      pub least_on : {r : Option ℕ} {next : ℕ} → ((x : Piece ℕ) → Is text k x → r ≡ seek_piece list words least x) → next ≡ lower r rank least
           → LeastSoFar text rank bound next rest
       unfolding lowered
       least_on {r} {next} named e =
-          let is : next ≡ lower (seek_piece list spans least passed.first) rank least = e ∙ ap (λ x. lower x rank least) (named passed.first passed.is) in
+          let is : next ≡ lower (seek_piece list words least passed.first) rank least = e ∙ ap (λ x. lower x rank least) (named passed.first passed.is) in
           let down = lowered_within rank (passed.first ∷ []) least in
           record {
-            shelved = shelved_below (omega arith) inv.shelved;
+            within = omega (arith, inv.within, down, is);
             ahead = passed_ahead inv.ahead passed;
-            decide = inv.decide ∙ ap (lowered list spans rank least) passed.parts ∙ ap (λ b. lowered list spans rank b passed.later) (sym is);
+            decide = inv.decide ∙ ap (lowered list words rank least) passed.parts ∙ ap (λ b. lowered list words rank b passed.later) (sym is);
           }

@@ -9,8 +9,8 @@ use lib.Dec.{leb}
 use lib.ListN.{length, drop, length-drop}
 use lib.Seq.{drop-drop, drop-length}
 use Rattle.kinds.specs.Limits.{standard, token_limit}
-use Rattle.plan.specs.declared.Character.TheVariants.{Malformed, Whole}
-use Rattle.plan.specs.Token.{all_permitted, allowed, character, may_hold, permits}
+use Rattle.std.specs.Prelude.{None, Some}
+use Rattle.plan.specs.Token.{all_permitted, allowed, character, may_hold, permits, whole}
 use Rattle.plan.proofs.Utf8.{character_width}
 use Rattle.words_meaning.specs.Linking.{percent}
 use Rattle.words_meaning.specs.Stock.{is_name, name_limit}
@@ -23,7 +23,7 @@ skipped (suc skip) [] = refl
 skipped (suc skip) (b ∷ bs) = skipped skip bs
 
 -- the first character is one that a token may hold, and so are those behind it
-next_permitted : (bs : List ℕ) {v w : ℕ} → character bs ≡ Whole v w → all_permitted 0 bs ≡ (may_hold v && all_permitted 0 (drop w bs))
+next_permitted : (bs : List ℕ) {v w : ℕ} → character bs ≡ Some (whole v w) → all_permitted 0 bs ≡ (may_hold v && all_permitted 0 (drop w bs))
 unfolding all_permitted permits
 next_permitted [] e = absurd (omega (arith, character_width [] e))
 next_permitted (b ∷ bs) {v} {w} e = rw e (ap (may_hold v &&◌) (skipped (w - 1) bs ∙ ap (all_permitted 0) (behind w (character_width (b ∷ bs) e).0)))
@@ -33,7 +33,7 @@ next_permitted (b ∷ bs) {v} {w} e = rw e (ap (may_hold v &&◌) (skipped (w - 
     behind (suc k) h = ap (λ j. drop j bs) (let z : suc k - 1 ≡ k = omega arith in z)
 
 -- bytes that begin no character are not permitted
-malformed : (bs : List ℕ) → 1 ≤ length bs → character bs ≡ Malformed → all_permitted 0 bs ≡ false
+malformed : (bs : List ℕ) → 1 ≤ length bs → character bs ≡ None → all_permitted 0 bs ≡ false
 unfolding all_permitted permits
 malformed [] h e = absurd (omega arith)
 malformed (b ∷ bs) h e = rw e refl
@@ -56,11 +56,11 @@ module _ {name : List ℕ} {at : ℕ} (inv : PermittedSoFar name at) where
       sym (inv.decides ∙ ap (λ k. all_permitted 0 (drop k name)) end ∙ ap (all_permitted 0) (drop-length name))
 
   -- no character is ahead
-  pub permitted_cut : at < length name → character (drop at name) ≡ Malformed → false ≡ all_permitted 0 name
+  pub permitted_cut : at < length name → character (drop at name) ≡ None → false ≡ all_permitted 0 name
   permitted_cut h e = sym (inv.decides ∙ malformed (drop at name) (omega (arith, length-drop at name)) e)
 
   -- the next character
-  module _ {v w : ℕ} (e : character (drop at name) ≡ Whole v w) where
+  module _ {v w : ℕ} (e : character (drop at name) ≡ Some (whole v w)) where
     -- it and the characters behind it decide
     next : all_permitted 0 name ≡ (may_hold v && all_permitted 0 (drop (at + w) name))
     next = inv.decides ∙ next_permitted (drop at name) e ∙ ap (λ us. may_hold v && all_permitted 0 us) (drop-drop w at name)
@@ -79,9 +79,9 @@ module _ {name : List ℕ} {at : ℕ} (inv : PermittedSoFar name at) where
         record { within = permitted_within.1; decides = next ∙ ap (◌&& all_permitted 0 (drop (at + w) name)) (sym told ∙ found) }
 
 -- an empty name is none
-pub name_empty : (name : List ℕ) → length name ≡ 0 → false ≡ is_name standard name
+pub name_empty : (name : List ℕ) → length name < 1 → is_name standard name ≡ false
 unfolding is_name
-name_empty name e = sym (ap (◌&& allowed token_limit (percent ∷ name)) (lt-leb 1 (length name) (omega arith)))
+name_empty name e = ap (◌&& allowed token_limit (percent ∷ name)) (lt-leb 1 (length name) e)
 
 module _ (name : List ℕ) where
   -- `%` itself is permitted, and one byte
@@ -90,12 +90,11 @@ module _ (name : List ℕ) where
   all = rw (le-leb 1 (suc (length name)) (omega arith)) refl
 
   -- one that is longer than a token has room for is none
-  pub name_long : name_limit < length name → false ≡ is_name standard name
+  pub name_long : name_limit < length name → is_name standard name ≡ false
   unfolding is_name
-  name_long h = sym (rw (all, lt-leb (suc (length name) + 2) token_limit (omega arith)) (and-false (leb 1 (length name))))
+  name_long h = rw (all, lt-leb (suc (length name) + 2) token_limit (omega arith)) (and-false (leb 1 (length name)))
 
   -- of any other its characters decide
-  pub name_told : {r : Bool} → (length name ≡ 0 → ⊥) → (name_limit < length name → ⊥) → r ≡ all_permitted 0 name → r ≡ is_name standard name
+  pub name_told : 1 ≤ length name → length name ≤ name_limit → is_name standard name ≡ all_permitted 0 name
   unfolding is_name
-  name_told some short e =
-      e ∙ sym (rw (all, le-leb 1 (length name) (omega arith), le-leb (suc (length name) + 2) token_limit (omega arith)) refl)
+  name_told some short = rw (all, le-leb 1 (length name) some, le-leb (suc (length name) + 2) token_limit (omega arith)) refl

@@ -1,20 +1,22 @@
 -- A whole list: the words that fit and the least of them that is used early tell what the list is.
 use Prim.Native.Nat.{ℕ, zero, suc, ◌≤◌, ◌<◌}
 use mathlib.Core.Path.{◌≡◌, refl, ap, sym, ◌∙◌}
+use mathlib.Core.Logic.{◌⊎◌, inl, inr}
 use mathlib.Core.Bool.{Bool, true, false, cond, not, ◌&&◌}
 use mathlib.Core.List.{List, [], ◌∷◌}
 use native.Mathlib.Omega.{arith}
-use borrow.Author.Tests.{le-leb, le-ltb, lt-leb, lt-ltb}
+use borrow.Author.Tests.{le-leb, le-ltb, lt-leb, lt-ltb, ltb-true}
 use lib.Dec.{leb, ltb}
 use lib.ListN.{length, drop}
 use Rattle.kinds.specs.Limits.{Limits, standard, token_limit}
 use Rattle.stored.specs.Counted.{AtFront, CUT, FRONT}
 use Rattle.stored.specs.Places.{number_at}
-use Rattle.stored.specs.declared.NumberAt.TheVariants.{Cut, Whole}
+use Rattle.std.specs.Prelude.{None, Some}
 use Rattle.stored.proofs.Places.{number_found, number_lost}
 use Rattle.words_meaning.specs.Linking.{Word, stock_token, used}
 use Rattle.words_meaning.specs.Stock.{LIST_FAULT, Stock, WORDS, as_counted, fits, next_word, right, stock, stocked, word, word_limit}
-use Rattle.words_shelf.specs.Shelf.{words_to}
+use Rattle.words_shelf.specs.Words.{words_to}
+use Rattle.words_shelf.specs.declared.WordAt.{WordAt}
 use Rattle.words_check.specs.Checking.{Fitting, earliest, fitting, next_fitting}
 use Rattle.words_check.proofs.Ranks.{many}
 
@@ -116,15 +118,30 @@ module _ (lim : Limits) where
       go CUT each = sym (ended older false clean)
       go (FRONT w rest) each = fit w rest (fits lim older w) (each w rest)
 
+-- it is not past the number of words
+earliest_most : (limit : ℕ) (ws : List Word) → earliest limit ws ≤ length ws
+unfolding earliest
+earliest_most limit [] = omega arith
+earliest_most limit (w ∷ older) = go (ltb (earliest limit older) (length older)) refl (used limit (stock_token w) (w ∷ older))
+  where
+    go : (b : Bool) → ltb (earliest limit older) (length older) ≡ b → (u : Bool)
+        → cond b (earliest limit older) (cond u (length older) (suc (length older))) ≤ suc (length older)
+    go true s u = omega (arith, ltb-true (earliest limit older) (length older) s)
+    go false s true = omega arith
+    go false s false = omega arith
+
+pub earliest_within : (list : List ℕ) (words : List WordAt) (fit : ℕ) {fault : ℕ} → fault ≡ earliest token_limit (words_to list words fit) → fault ≤ fit
+earliest_within list words fit least = omega (arith, least, earliest_most token_limit (words_to list words fit), many list words fit)
+
 -- The list as the code checks it.
 
 module _ (list : List ℕ) where
   -- the count is cut
-  pub no_count : number_at list 0 ≡ Cut → stock standard list ≡ LIST_FAULT 0
+  pub no_count : number_at list 0 ≡ None → stock standard list ≡ LIST_FAULT 0
   unfolding stock as_counted
   no_count e = ap (as_counted standard) (number_lost list 0 e)
 
-  module _ {count : ℕ} (found : number_at list 0 ≡ Whole count) where
+  module _ {count : ℕ} (found : number_at list 0 ≡ Some count) where
     -- the count is whole: the words begin behind its four bytes
     pub list_long : 4 ≤ length list
     list_long = (number_found list 0 found).0
@@ -143,27 +160,26 @@ module _ (list : List ℕ) where
     counted h = by_count ∙ ap (λ b. cond b (stocked standard count [] (drop 4 list)) (LIST_FAULT word_limit)) (le-leb count word_limit h)
 
     -- what was found of its words
-    module _ (few : count ≤ word_limit) (spans : List ℕ) (fit : ℕ) {early : ℕ} {whole : Bool}
-        (told : fitting standard count [] (drop 4 list) ≡ record { words = words_to list spans fit; whole = whole })
-        (least : early ≡ earliest token_limit (words_to list spans fit)) where
+    module _ (few : count ≤ word_limit) (words : List WordAt) (fit : ℕ) {fault : ℕ} {whole : Bool}
+        (told : fitting standard count [] (drop 4 list) ≡ record { words = words_to list words fit; whole = whole })
+        (least : fault ≡ earliest token_limit (words_to list words fit)) where
       -- then the words that fit, and the least of them that is used early
-      by_words : stock standard list ≡ cond (ltb early fit) (LIST_FAULT early) (cond whole (WORDS (words_to list spans fit)) (LIST_FAULT fit))
+      by_words : stock standard list ≡ cond (ltb fault fit) (LIST_FAULT fault) (cond whole (WORDS (words_to list words fit)) (LIST_FAULT fit))
       unfolding verdict earliest
       by_words =
-          counted few ∙ stocked-fitting standard count [] (drop 4 list) refl ∙ ap (verdict token_limit) told ∙ rw (many list spans fit, sym least) refl
+          counted few ∙ stocked-fitting standard count [] (drop 4 list) refl ∙ ap (verdict token_limit) told ∙ rw (many list words fit, sym least) refl
 
-      -- one is used early
-      pub used-early : early < fit → stock standard list ≡ LIST_FAULT early
-      used-early h = by_words ∙ ap (λ b. cond b (LIST_FAULT early) (cond whole (WORDS (words_to list spans fit)) (LIST_FAULT fit))) (lt-ltb early fit h)
-
-      -- none is
-      not-early : fit ≤ early → stock standard list ≡ cond whole (WORDS (words_to list spans fit)) (LIST_FAULT fit)
-      not-early h = by_words ∙ ap (λ b. cond b (LIST_FAULT early) (cond whole (WORDS (words_to list spans fit)) (LIST_FAULT fit))) (le-ltb early fit h)
+      -- none is used early
+      not-early : fit ≤ fault → stock standard list ≡ cond whole (WORDS (words_to list words fit)) (LIST_FAULT fit)
+      not-early h = by_words ∙ ap (λ b. cond b (LIST_FAULT fault) (cond whole (WORDS (words_to list words fit)) (LIST_FAULT fit))) (le-ltb fault fit h)
 
       -- and the words are all
-      pub all_right : fit ≤ early → whole ≡ true → stock standard list ≡ WORDS (words_to list spans fit)
-      all_right h e = not-early h ∙ ap (λ b. cond b (WORDS (words_to list spans fit)) (LIST_FAULT fit)) e
+      pub all_right : fit ≤ fault → whole ≡ true → stock standard list ≡ WORDS (words_to list words fit)
+      all_right h e = not-early h ∙ ap (λ b. cond b (WORDS (words_to list words fit)) (LIST_FAULT fit)) e
 
-      -- but the next does not fit, or bytes are behind the last
-      pub not-whole : fit ≤ early → whole ≡ false → stock standard list ≡ LIST_FAULT fit
-      not-whole h e = not-early h ∙ ap (λ b. cond b (WORDS (words_to list spans fit)) (LIST_FAULT fit)) e
+      -- one is, or the next does not fit, or bytes are behind the last
+      pub one_wrong : (fault < fit) ⊎ ((fit ≤ fault) × (whole ≡ false)) → stock standard list ≡ LIST_FAULT fault
+      one_wrong (inl h) = by_words ∙ ap (λ b. cond b (LIST_FAULT fault) (cond whole (WORDS (words_to list words fit)) (LIST_FAULT fit))) (lt-ltb fault fit h)
+      one_wrong (inr (h, e)) =
+          let is : fit ≡ fault = omega (arith, earliest_within list words fit least) in
+          not-early h ∙ ap (λ b. cond b (WORDS (words_to list words fit)) (LIST_FAULT fit)) e ∙ ap LIST_FAULT is

@@ -3,42 +3,29 @@
 // nothing grows with the square of the list's bytes.
 #![tactic(auto)]
 
-ghost use Rattle.std.specs.Prelude.{◌≡◌, [], ◌*◌, ◌≤◌, length, drop};
+ghost use Rattle.std.specs.Prelude.{◌≡◌, ℕ, [], ◌≤◌, length, drop, MatchOption, MatchResult, false};
 ghost use Rattle.kinds.specs.Limits.{standard, token_limit};
 ghost use Rattle.plan.specs.Pieces.{pieces};
 ghost use Rattle.plan.specs.Reading.{plan_of};
 ghost use Rattle.plan.specs.Token.{all_permitted};
-ghost use Rattle.words_meaning.specs.Stock.{is_name, stock, word_limit};
-ghost use Rattle.words_shelf.specs.Shelf.{Readable, Shelved, words_to};
-ghost use Rattle.words_shelf.specs.Spans.{word_numbers};
-ghost use Rattle.words_check.specs.Checking.{ThereTells, CheckedShelved, OwnNames, earliest, fitting, is_new_name, checked_told, lower, lowered, fit_words_told};
+ghost use Rattle.words_meaning.specs.Stock.{LIST_FAULT as LIST_FAULT, WORDS, is_name, stock, word_limit};
+ghost use Rattle.words_meaning.specs.declared.LinkRefusal.TheVariants.{BadWords};
+ghost use Rattle.words_shelf.specs.Shelf.{Readable};
+ghost use Rattle.words_shelf.specs.Words.{Shelved, words_to};
+ghost use Rattle.words_check.specs.Checking.{FitThere, OwnNames, earliest, fit_front, fit_words_told, fitting, is_new_name, lower, lowered, word_ahead};
 
 use characters::{character_at, may_hold};
-use items::{Cursor, NextPiece, next};
+use items::{Placed, Walk};
 use plan::Character;
 use read::is_acceptable;
-use stored::{NUMBER, NumberAt, Span, TwoCountedAt, number_at, part, two_counted_at};
-use words_meaning::{MOST, NAME_LIMIT};
-use words_shelf::{Named, find, find_piece, keep, text_of};
-
-// What a list is found to be: the least rank at fault, or so many words.
-#[derive(Clone, Copy)]
-pub enum Checked {
-    Bad(u32),
-    Words(u32),
-}
-
-// One word checked by itself and beside the names before it: where its name and its text stand, if it fits.
-#[derive(Clone, Copy)]
-pub enum WordThere {
-    Unfit,
-    Fit { name: Span, text: Span },
-}
+use stored::{NUMBER, number_at, part, two_counted_at};
+use words_meaning::{LinkRefusal, MOST, NAME_LIMIT};
+use words_shelf::{Shelf, WordAt, Words};
 
 // How many words fit by themselves, and whether they are all, with no byte behind them.
 #[derive(Clone, Copy)]
 pub struct FitWords {
-    pub fit: u32,
+    pub fit: usize,
     pub whole: bool,
 }
 
@@ -48,7 +35,7 @@ fn are_permitted(name: &[u8]) -> bool
 {
     let mut at = 0;
     while at < name.len() {
-        let Character::Whole { value, width } = character_at(name, at) else {
+        let Some(Character { value, width }) = character_at(name, at) else {
             return false;
         };
         if !may_hold(value) {
@@ -60,153 +47,122 @@ fn are_permitted(name: &[u8]) -> bool
 }
 
 // A name is not empty, and with `%` before it makes an allowed token.
-#[tactic(auto, using(crate::proofs::Names::name_empty, crate::proofs::Names::name_long))]
+#[tactic(auto, using(crate::proofs::Names::name_empty, crate::proofs::Names::name_long, crate::proofs::Names::name_told))]
 fn is_name(name: &[u8]) -> bool
     ensures { result ≡ is_name standard name.now }
 {
-    if name.len() == 0 {
-        return false;
-    }
-    if NAME_LIMIT < name.len() {
-        return false;
-    }
-    are_permitted(name)
-}
-
-// Whether these bytes are a name, and none of the words below the rank has it.
-fn is_new_name(list: &[u8], spans: &[u32], rank: u32, name: &[u8]) -> bool
-    requires { Shelved list.now spans.now rank }
-    ensures { result ≡ is_new_name (words_to list.now spans.now rank) name.now }
-{
-    if !is_name(name) {
-        return false;
-    }
-    match find(list, spans, rank, name) {
-        Named::Unlisted => true,
-        Named::Listed(earlier) => false,
+    match name.len() {
+        1..=NAME_LIMIT => are_permitted(name),
+        _ => false,
     }
 }
 
-// Judges the word of a rank, which begins at a place, by itself and beside the names before it.
-fn check_word(list: &[u8], spans: &[u32], rank: u32, at: usize) -> WordThere
-    requires { Shelved list.now spans.now rank }
-    ensures { ThereTells list.now (words_to list.now spans.now rank) at result }
+// Whether these bytes are a name, and none of the words has it.
+fn is_new_name(shelf: &Shelf, name: &[u8]) -> bool
+    ensures { result ≡ is_new_name (words_to shelf.now.list.now shelf.now.words.now shelf.now.below) name.now }
 {
-    let TwoCountedAt::Both {
-        first: name,
-        second: text,
-    } = two_counted_at(list, at)
-    else {
-        return WordThere::Unfit;
-    };
-    if !is_new_name(list, spans, rank, part(list, name)) {
-        return WordThere::Unfit;
+    is_name(name) && shelf.find(name).is_none()
+}
+
+// Judges the word that begins at a place of the list, behind the words of the shelf, by itself and beside their names: where it stands, if it
+// fits.
+fn check_word(shelf: &Shelf, at: usize) -> Option<WordAt>
+    ensures { MatchOption result (fit_front standard (words_to shelf.now.list.now shelf.now.words.now shelf.now.below) (word_ahead shelf.now.list.now at) ≡ false) (λ w. FitThere shelf.now.list.now (words_to shelf.now.list.now shelf.now.words.now shelf.now.below) at w) }
+{
+    let (name, text) = two_counted_at(shelf.list, at)?;
+    if !is_new_name(shelf, part(shelf.list, name)) {
+        return None;
     }
-    if !is_acceptable(part(list, text)) {
-        return WordThere::Unfit;
+    if !is_acceptable(part(shelf.list, text)) {
+        return None;
     }
-    WordThere::Fit { name, text }
+    Some(WordAt { name, text })
 }
 
 // Finds where the words of a list stand, up to the first that does not fit.
-fn shelve(list: &[u8], spans: &mut [u32], count: u32) -> FitWords
-    requires { (count ≤ word_limit) × (word_numbers * word_limit ≤ length spans.old) × (4 ≤ length list.now) }
-    ensures told { fitting standard count [] (drop 4 list.now) ≡ fit_words_told list.now spans.new result }
-    ensures shelved { Shelved list.now spans.new result.fit × (result.fit ≤ word_limit) }
-    ensures own_names { OwnNames list.now spans.new result.fit }
+fn shelve(list: &[u8], words: &mut Words, count: usize) -> FitWords
+    requires { (count ≤ word_limit) × (4 ≤ length list.now) }
+    ensures told { fitting standard count [] (drop 4 list.now) ≡ fit_words_told list.now words.new result }
+    ensures shelved { Shelved list.now words.new result.fit × (result.fit ≤ word_limit) }
+    ensures own_names { OwnNames list.now words.new result.fit }
 {
     let mut at = NUMBER;
-    let mut rank: u32 = 0;
-    while rank < count {
-        match check_word(list, spans, rank, at) {
-            WordThere::Unfit => {
-                return FitWords {
-                    fit: rank,
-                    whole: false,
-                };
-            }
-            WordThere::Fit { name, text } => {
-                keep(spans, rank, name, text);
-                at = text.at + text.len;
-                rank += 1;
-            }
-        }
+    for rank in 0..count {
+        let shelf = Shelf {
+            list,
+            words,
+            below: rank,
+        };
+        let Some(word) = check_word(&shelf, at) else {
+            return FitWords {
+                fit: rank,
+                whole: false,
+            };
+        };
+        words[rank] = word;
+        at = word.text.end();
     }
     FitWords {
-        fit: rank,
+        fit: count,
         whole: at == list.len(),
     }
 }
 
 // The rank that was found, which is lower than the bound. Where it is below `rank`, or none was found, the bound.
-fn lower(found: Named, rank: u32, bound: u32) -> u32
+fn lower(found: Option<usize>, rank: usize, bound: usize) -> usize
     ensures { result ≡ lower found rank bound }
 {
     match found {
-        Named::Unlisted => bound,
-        Named::Listed(word) => {
-            if word < rank {
-                return bound;
-            }
-            word
-        }
+        Some(word) if rank <= word => word,
+        _ => bound,
     }
 }
 
-// The least rank from `rank` up to the bound that a token of the text names, else the bound.
-fn least_named(list: &[u8], spans: &[u32], text: &[u8], rank: u32, bound: u32) -> u32
-    requires { Shelved list.now spans.now bound × Readable text.now }
-    ensures { result ≡ lowered list.now spans.now rank bound (pieces (plan_of token_limit text.now)) }
+// The least rank from `rank` on that a token of the text names, else the number of words.
+fn least_named(shelf: &Shelf, text: &[u8], rank: usize) -> usize
+    requires { Readable text.now }
+    ensures { result ≡ lowered shelf.now.list.now shelf.now.words.now rank shelf.now.below (pieces (plan_of token_limit text.now)) }
 {
-    let mut least = bound;
-    let mut cursor = Cursor { at: 0 };
-    loop {
-        match next(text, cursor) {
-            NextPiece::End => return least,
-            NextPiece::Piece { piece, at, rest } => {
-                least = lower(find_piece(list, spans, least, text, piece), rank, least);
-                cursor = rest;
-            }
-        }
+    let mut least = shelf.below;
+    for Placed { piece, .. } in Walk::over(text) {
+        least = lower(shelf.before(least).find_piece(text, piece), rank, least);
     }
+    least
 }
 
 // The least rank that a word of the same or a smaller rank uses, else the number of words.
-fn earliest(list: &[u8], spans: &[u32], fit: u32) -> u32
-    requires { Shelved list.now spans.now fit × OwnNames list.now spans.now fit }
-    ensures { result ≡ earliest token_limit (words_to list.now spans.now fit) }
+fn earliest(shelf: &Shelf) -> usize
+    requires { OwnNames shelf.now.list.now shelf.now.words.now shelf.now.below }
+    ensures { result ≡ earliest token_limit (words_to shelf.now.list.now shelf.now.words.now shelf.now.below) }
 {
-    let mut bound = fit;
-    let mut rank: u32 = 0;
+    let mut bound = shelf.below;
+    let mut rank = 0;
     while rank < bound {
-        bound = least_named(list, spans, text_of(list, spans, rank), rank, bound);
+        bound = least_named(&shelf.before(bound), shelf.text_of(rank), rank);
         rank += 1;
     }
     bound
 }
 
 // Judges a list, and finds where its words stand.
-pub fn check_list(list: &[u8], spans: &mut [u32]) -> Checked
-    requires { word_numbers * word_limit ≤ length spans.old }
-    ensures told { stock standard list.now ≡ checked_told list.now spans.new result }
-    ensures shelved { CheckedShelved list.now spans.new result }
+pub fn check_list<'a>(list: &'a [u8], words: &'a mut Words) -> Result<Shelf<'a>, LinkRefusal>
+    ensures { MatchResult result (λ s. stock standard list.now ≡ WORDS (words_to s.list.now s.words.now s.below)) (λ r. (rank : ℕ) × (r ≡ BadWords rank) × (stock standard list.now ≡ LIST_FAULT rank)) }
 {
-    match number_at(list, 0) {
-        NumberAt::Cut => Checked::Bad(0),
-        NumberAt::Whole(count) => {
-            if MOST < count {
-                return Checked::Bad(MOST);
-            }
-            let shelf = shelve(list, spans, count);
-            let fit = shelf.fit;
-            let early = earliest(list, spans, fit);
-            if early < fit {
-                return Checked::Bad(early);
-            }
-            if shelf.whole {
-                return Checked::Words(fit);
-            }
-            Checked::Bad(fit)
-        }
+    let Some(count) = number_at(list, 0) else {
+        return Err(LinkRefusal::BadWords(0));
+    };
+    if MOST < count as usize {
+        return Err(LinkRefusal::BadWords(MOST as u32));
     }
+    let FitWords { fit, whole } = shelve(list, words, count as usize);
+    let shelf = Shelf {
+        list,
+        words,
+        below: fit,
+    };
+    let fault = earliest(&shelf);
+    if fault < fit || !whole {
+        return Err(LinkRefusal::BadWords(fault as u32));
+    }
+    Ok(shelf)
 }

@@ -17,11 +17,14 @@ pub struct WordAt {
     pub text: Span,
 }
 
+// Where the words of a list stand: of those ranks that have one.
+pub type Words = [WordAt; MOST];
+
 // The words of a list below a rank, each by where it stands.
 #[derive(Clone, Copy)]
 pub struct Shelf<'a> {
     pub list: &'a [u8],
-    pub words: &'a [WordAt; MOST],
+    pub words: &'a Words,
     pub below: usize,
     pub ghost few: { below ≤ word_limit },
     pub ghost shelved: { Shelved list.now words.now below },

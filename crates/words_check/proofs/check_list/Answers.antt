@@ -1,27 +1,25 @@
 -- `check_list`: the words that fit and the least that is used early tell what the list is.
-use Rattle.std.proofs.Common.{sym, ◌∙◌}
-use Rattle.words_check.proofs.Verdict.{all_right, list_long, no_count, not-whole, too_many, used-early}
+use Rattle.std.proofs.Common.{inl, inr, refl, sym, ◌∙◌, arith}
+use Rattle.words_check.proofs.Verdict.{all_right, earliest_within, list_long, no_count, one_wrong, too_many}
 use Rattle.words_check.proofs.check_list.Goals as goal
 
-pub returns-in-Cut-clause-told : goal.returns-in-Cut-clause-told
-returns-in-Cut-clause-told c = no_count _ (sym c.number_at.ensures ∙ c.in-Cut.is)
+pub returns-in_default : goal.returns-in_default
+returns-in_default c = (0, refl, no_count _ (sym c.number_at.ensures ∙ c.in_default.is))
 
-pub returns-then-count-gt-MOST-clause-told : goal.returns-then-count-gt-MOST-clause-told
-returns-then-count-gt-MOST-clause-told c = too_many _ (sym c.number_at.ensures ∙ c.in-Whole.is) c.if-count-gt-MOST.true
+pub returns-then-count-gt-MOST : goal.returns-then-count-gt-MOST
+returns-then-count-gt-MOST c = (256, refl, too_many _ (sym c.number_at.ensures ∙ c.in-Some.is) c.if-count-gt-MOST.true)
 
-pub shelve-shelf-requires : goal.shelve-shelf-requires
-shelve-shelf-requires c = (c.if-count-gt-MOST.false, c.requires, list_long _ (sym c.number_at.ensures ∙ c.in-Whole.is))
+pub shelve-fit-requires : goal.shelve-fit-requires
+shelve-fit-requires c = (c.if-count-gt-MOST.false, list_long _ (sym c.number_at.ensures ∙ c.in-Some.is))
 
-pub returns-then-early-fit-clause-told : goal.returns-then-early-fit-clause-told
-returns-then-early-fit-clause-told c =
-    used-early _ (sym c.number_at.ensures ∙ c.in-Whole.is) c.if-count-gt-MOST.false _ _ c.shelve-shelf.ensures.told c.earliest-early.ensures c.if-early-fit.true
+pub overflow_cast-result-then-fault-fit : goal.overflow_cast-result-then-fault-fit
+overflow_cast-result-then-fault-fit c =
+    omega (arith, earliest_within c.args.list.now c.shelve-fit.new.words _ c.earliest-fault.ensures, c.shelve-fit.ensures.shelved.1)
 
-pub returns-then-shelf-clause-told : goal.returns-then-shelf-clause-told
-returns-then-shelf-clause-told c =
-    all_right _ (sym c.number_at.ensures ∙ c.in-Whole.is) c.if-count-gt-MOST.false _ _ c.shelve-shelf.ensures.told c.earliest-early.ensures c.if-early-fit.false
-    c.if-shelf.true
+pub returns-then-fault-fit : goal.returns-then-fault-fit
+returns-then-fault-fit c =
+    (_, refl, one_wrong _ (sym c.number_at.ensures ∙ c.in-Some.is) c.if-count-gt-MOST.false _ _ c.shelve-fit.ensures.told c.earliest-fault.ensures c.then-fault-fit.either)
 
-pub returns-else-shelf-clause-told : goal.returns-else-shelf-clause-told
-returns-else-shelf-clause-told c =
-    not-whole _ (sym c.number_at.ensures ∙ c.in-Whole.is) c.if-count-gt-MOST.false _ _ c.shelve-shelf.ensures.told c.earliest-early.ensures c.if-early-fit.false
-    c.if-shelf.false
+pub returns : goal.returns
+returns c =
+    all_right _ (sym c.number_at.ensures ∙ c.in-Some.is) c.if-count-gt-MOST.false _ _ c.shelve-fit.ensures.told c.earliest-fault.ensures c.if-fault-fit.false c.if-not-whole.false
