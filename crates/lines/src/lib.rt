@@ -9,5 +9,5 @@ mod reading;
 
 pub use answer::{echo, tell_answer, tell_rest};
 pub use digits::{number_of, put_hex};
-pub use parts::{Fields, fields_of, split_once};
+pub use parts::{Fields, Parts, fields_of, split_once};
 pub use reading::{read_input, tell_lines};

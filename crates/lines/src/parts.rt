@@ -1,5 +1,15 @@
 // A text cut at a sign, and the fields of a line, which the sign ` | ` parts.
-ghost use Rattle.std.specs.Prelude.{◌≡◌, ◌++◌, IfSome};
+ghost use Rattle.std.specs.Prelude.{◌≡◌, ◌+◌, ◌++◌, ◌<◌, IfSome, length};
+ghost use Rattle.std.specs.Iterator.{at_most};
+ghost use Rattle.lines.specs.Parts.{turns};
+
+// The parts of a text that a sign parts. A text without the sign is one part, also where it is empty.
+#[derive(Clone, Copy)]
+pub struct Parts<'a> {
+    left: Option<&'a [u8]>,
+    sign: &'a [u8],
+    ghost sign_is_there: { 0 < length sign.now },
+}
 
 // The fields of a line of a case. One that the line does not have is empty, and a fifth is part of the fourth, which is then no number.
 #[derive(Clone, Copy)]
@@ -23,15 +33,43 @@ pub fn split_once<'a>(text: &'a [u8], sign: &[u8]) -> Option<(&'a [u8], &'a [u8]
     None
 }
 
-// A field, and what the line has behind it.
-fn field_and_rest(line: &[u8]) -> (&[u8], &[u8]) {
-    split_once(line, b" | ").unwrap_or((line, b""))
+impl<'a> Parts<'a> {
+    pub fn of(text: &'a [u8], sign: &'a [u8]) -> Self
+        requires { 0 < length sign.now }
+    {
+        Self {
+            left: Some(text),
+            sign,
+        }
+    }
+}
+
+impl<'a> Iterator for Parts<'a> {
+    type Item = &'a [u8];
+
+    ghost remaining = { λ s. at_most (turns s.left) };
+
+    fn next(&mut self) -> Option<&'a [u8]> {
+        let text = self.left?;
+        match split_once(text, self.sign) {
+            Some((part, others)) => {
+                self.left = Some(others);
+                Some(part)
+            }
+            None => {
+                self.left = None;
+                Some(text)
+            }
+        }
+    }
 }
 
 pub fn fields_of(line: &[u8]) -> Fields<'_> {
-    let (label, rest) = field_and_rest(line);
-    let (second, rest) = field_and_rest(rest);
-    let (third, fourth) = field_and_rest(rest);
+    let mut parts = Parts::of(line, b" | ");
+    let label = parts.next().unwrap_or(b"");
+    let second = parts.next().unwrap_or(b"");
+    let third = parts.next().unwrap_or(b"");
+    let fourth = parts.left.unwrap_or(b"");
     Fields {
         label,
         second,
