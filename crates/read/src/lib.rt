@@ -13,47 +13,34 @@ ghost use Rattle.read.specs.Accepted.{acceptance_told};
 
 use items::put_tidied;
 use kinds::{Cell, Place};
-use plan::{ReadAnswer, ReadRefusal, TextFault, Unread};
-use reader::{Surveyed, survey};
-
-// Whether a text is accepted, with its cells and its printed bytes; or why it is not read.
-#[derive(Clone, Copy)]
-pub enum ToldAcceptance {
-    Accepted { cells: u32, length: u32 },
-    NotRead(Unread),
-}
+use plan::{ReadRefusal, Size, TextFault, Unread};
+use reader::{Counted, survey};
 
 // What a text reads as, however many cells it has; and where the first item past the room begins.
-pub fn survey_text(text: &[u8], room: u32) -> Surveyed
+#[tactic(auto, unfolding(plan::specs::Reading::read_text, reader::specs::Counting::surveyed))]
+pub fn survey_text(text: &[u8], room: u32) -> Result<Counted, TextFault>
     ensures { result ≡ surveyed room (read_text standard text.now) }
 {
     if Place::LIMIT < text.len() {
-        return Surveyed::Faulty(TextFault::TooLong);
+        return Err(TextFault::TooLong);
     }
     survey(text, room)
 }
 
-// Whether a text is accepted where there is room for so many cells.
-pub fn accept(text: &[u8], room: u32) -> ToldAcceptance
+// Whether a text is accepted where there is room for so many cells, and how large its plan is; or why it is not read.
+#[tactic(auto, unfolding(plan::specs::Reading::accept))]
+pub fn accept(text: &[u8], room: u32) -> Result<Size, Unread>
     ensures { result ≡ acceptance_told (accept standard room text.now) }
 {
-    match survey_text(text, room) {
-        Surveyed::Faulty(fault) => ToldAcceptance::NotRead(Unread::Text(fault)),
-        Surveyed::Counted {
-            cells,
-            length,
-            overfull,
-        } => {
-            if room < cells {
-                return ToldAcceptance::NotRead(Unread::Overfull(overfull));
-            }
-            ToldAcceptance::Accepted { cells, length }
-        }
+    let Counted { size, overfull } = survey_text(text, room)?;
+    if room < size.cells {
+        return Err(Unread::Overfull(overfull));
     }
+    Ok(size)
 }
 
 // READ before its output is looked at. No memory is lent to it, so its plans may have as many cells as any.
-pub fn acceptance_of(text: &[u8]) -> ToldAcceptance
+pub fn acceptance_of(text: &[u8]) -> Result<Size, Unread>
     ensures { result ≡ acceptance_told (accept standard cell_limit text.now) }
 {
     accept(text, Cell::LIMIT as u32)
@@ -63,23 +50,16 @@ pub fn acceptance_of(text: &[u8]) -> ToldAcceptance
 pub fn is_acceptable(text: &[u8]) -> bool
     ensures { result ≡ acceptable standard text.now }
 {
-    match acceptance_of(text) {
-        ToldAcceptance::Accepted { cells, length } => true,
-        ToldAcceptance::NotRead(why) => false,
-    }
+    acceptance_of(text).is_ok()
 }
 
-pub fn read(text: &[u8], output: &mut [u8]) -> ReadAnswer
+pub fn read(text: &[u8], output: &mut [u8]) -> Result<Size, ReadRefusal>
     ensures { ReadsOut text.now output.old result output.new }
 {
-    match acceptance_of(text) {
-        ToldAcceptance::NotRead(why) => ReadAnswer::Refused(ReadRefusal::NotRead(why)),
-        ToldAcceptance::Accepted { cells, length } => {
-            if output.len() < length as usize {
-                return ReadAnswer::Refused(ReadRefusal::OutShort(length));
-            }
-            put_tidied(text, output, 0);
-            ReadAnswer::Read { cells, length }
-        }
+    let size = acceptance_of(text)?;
+    if output.len() < size.length as usize {
+        return Err(ReadRefusal::OutShort(size.length));
     }
+    put_tidied(text, output, 0);
+    Ok(size)
 }

@@ -1,12 +1,15 @@
--- `accept`: a fault, then 17, else the counts.
-use Rattle.read.proofs.Accepting.{accept_faulty, accept-fits, accept_over}
+-- `accept`: a fault, then 17, else how large the plan is.
+use Rattle.std.proofs.lemmas.Result.{err_from_is_err_and}
+use Rattle.read.proofs.Accepting.{accept_faulty, accept_over, accept_fits}
 use Rattle.read.proofs.accept.Goals as goal
 
-pub returns-then-room-cells : goal.returns-then-room-cells
-returns-then-room-cells c = accept_over _ _ c.survey_text.ensures c.in-Counted.is c.if-room-cells.true
+pub returns-in_err-size : goal.returns-in_err-size
+returns-in_err-size c =
+    let p = err_from_is_err_and c.from_residual.result c.from_residual.ensures.1 in
+    rw (p.1, p.2) (accept_faulty _ _ c.in_err-size.ensures)
 
-pub returns-in-Faulty : goal.returns-in-Faulty
-returns-in-Faulty c = accept_faulty _ _ c.survey_text.ensures c.in-Faulty.is
+pub returns-then-room-size : goal.returns-then-room-size
+returns-then-room-size c = accept_over _ _ c.in_ok-size.ensures c.if-room-size.true
 
-pub returns-else-room-cells : goal.returns-else-room-cells
-returns-else-room-cells c = accept-fits _ _ c.survey_text.ensures c.in-Counted.is c.if-room-cells.false
+pub returns : goal.returns
+returns c = accept_fits _ _ c.in_ok-size.ensures c.if-room-size.false
