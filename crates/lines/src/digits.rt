@@ -2,19 +2,23 @@
 ghost use Rattle.std.specs.Prelude.{◌<◌, ◌≤◌, IfSome, length};
 
 // A number with one digit more behind it.
-fn with_digit(value: u32, digit: u8) -> Option<u32> {
+fn with_digit(value: u64, digit: u8) -> Option<u64> {
     let digit = char::from(digit).to_digit(10)?;
-    value.checked_mul(10)?.checked_add(digit)
+    value.checked_mul(10)?.checked_add(u64::from(digit))
 }
 
-// The number that digits stand for.
-pub fn number_of(digits: &[u8]) -> Option<u32> {
+// The number that digits stand for, in a type that has it.
+pub fn number_of<N: TryFrom<u64>>(digits: &[u8]) -> Option<N>
+where
+    N::Error: Drop,
+{
     if digits.is_empty() {
         return None;
     }
-    digits
+    let number = digits
         .iter()
-        .try_fold(0, |value, digit| with_digit(value, *digit))
+        .try_fold(0, |value, digit| with_digit(value, *digit))?;
+    N::try_from(number).ok()
 }
 
 // The value of a hex digit.
