@@ -47,6 +47,7 @@ pub fn acceptance_of(text: &[u8]) -> Result<Size, Unread>
 }
 
 // Whether nothing but OUTSHORT could refuse a text.
+#[tactic(auto, using(crate::proofs::Accepting::told_whether))]
 pub fn is_acceptable(text: &[u8]) -> bool
     ensures { result ≡ acceptable standard text.now }
 {
