@@ -7,17 +7,17 @@ use native.Mathlib.Omega.{arith}
 use native.Mathlib.Nat.{le_trans, mul-le-mul_left}
 use lib.ListN.{length, replicate}
 use Rattle.kinds.specs.Limits.{cell_limit, cell_numbers, standard, text_limit, token_limit}
+use Rattle.std.specs.Prelude.{Err, Ok}
 use Rattle.kinds.specs.declared.Cell.{Cell}
 use Rattle.plan.specs.Plan.{Plan, bare, cells, print}
 use Rattle.plan.specs.Reading.{ACCEPTED, accept, read}
 use Rattle.rules.specs.Running.{Ran as Run, RAN, run_plan}
 use Rattle.plan.specs.Outcomes.{GIVES, Wrote, cleared}
-use Rattle.answers.specs.Run.{as_run, bad_arena, quarter, run_family, run_read, run_outcome, text_too_long}
+use Rattle.answers.specs.Run.{RunAnswer, as_run, bad_arena, quarter, ran, run_family, run_read, run_outcome, text_too_long}
 use Rattle.plan.specs.declared.TextFault.TheVariants.{TooLong}
 use Rattle.plan.specs.declared.Unread.{Unread}
 use Rattle.plan.specs.declared.Unread.TheVariants.{Text}
-use Rattle.answers.specs.declared.RunAnswer.{RunAnswer}
-use Rattle.answers.specs.declared.RunAnswer.TheVariants.{Ran, Refused}
+use Rattle.plan.specs.declared.Size.{Size}
 use Rattle.answers.specs.declared.RunRefusal.TheVariants.{BadArena, NotRead, OutShort}
 use Rattle.plan.proofs.Outcomes.{wrote_fits, wrote_refused, wrote_short}
 use Rattle.plan.proofs.Plans.{cells-relabel, print-relabel}
@@ -26,16 +26,12 @@ use Rattle.rules.proofs.Runs.{run_allowed, run_cells, run_relabel}
 use Rattle.plan.proofs.Accepting.{accept_short, accepted_text}
 use Rattle.answers.proofs.Runs.{refuses_refused, runs_short}
 use Rattle.read.specs.Accepted.{acceptance_told}
-use Rattle.read.specs.declared.ToldAcceptance.{ToldAcceptance}
-use Rattle.read.specs.declared.ToldAcceptance.TheVariants.{Accepted, NotRead as NotAccepted}
 use Rattle.read.proofs.Accepting.{told_plan, told_unread}
 use Rattle.kinds.specs.Written.{put_at}
 use Rattle.kinds.proofs.Putting.{put_front}
 use Rattle.memory.specs.Held.{HeldIn, HeldAlike}
-use Rattle.memory.specs.Model.{Aside, Lent}
 use Rattle.memory.specs.Pieces.{PrintsWithin, print_limit}
 use Rattle.memory.specs.declared.Held.{Held}
-use Rattle.memory.proofs.Whole.{lent-kept}
 use Rattle.engine.specs.Running.{RanAs, RunMade, Runnable, Sized}
 use Rattle.engine.specs.declared.Ended.{Ended}
 use Rattle.run.specs.Calls.{Runs}
@@ -43,36 +39,39 @@ use Rattle.run.specs.Writing.{EndWritten, Printable, TextAccepted}
 
 -- printing
 
-module _ {text m : List ℕ} {e : Ended} (k : Printable text m e) where
-  pub prints_at_most : PrintsWithin 0 print_limit text m e.held
-  prints_at_most = record { lent = k.lent; plan = k.plan; held = k.sized.held; fits = omega (arith, k.fits) }
+module _ {text : List ℕ} {h : Held} {e : Ended} (k : Printable text h e) where
+  pub prints_at_most : PrintsWithin 0 print_limit text h
+  prints_at_most = record { plan = k.plan; held = k.sized.held; fits = omega (arith, k.fits) }
 
   -- the length as `printed_length` finds it
-  module _ {long : ℕ} (is : (t : Plan ℕ) → HeldIn text m e.held t → long ≡ length (print t)) (out : List ℕ) where
-    pub prints_in : long ≤ length out → PrintsWithin 0 (length out) text m e.held
-    prints_in h = record { lent = k.lent; plan = k.plan; held = k.sized.held; fits = let size = is k.plan k.sized.held in omega arith }
+  module _ {long : ℕ} (is : (t : Plan ℕ) → HeldIn text h t → long ≡ length (print t)) (out : List ℕ) where
+    pub prints_in : long ≤ length out → PrintsWithin 0 (length out) text h
+    prints_in l = record { plan = k.plan; held = k.sized.held; fits = let size = is k.plan k.sized.held in omega arith }
 
-module _ {text m : List ℕ} (e : Ended) {long : ℕ} (is : (t : Plan ℕ) → HeldIn text m e.held t → long ≡ length (print t)) (out : List ℕ) where
-  pub writes_short : length out < long → EndWritten text m e out (Refused (OutShort long)) out
+module _ {text : List ℕ} {h : Held} (e : Ended) {long : ℕ} (is : (t : Plan ℕ) → HeldIn text h t → long ≡ length (print t)) (out : List ℕ) where
+  pub writes_short : length out < long → EndWritten text h e out (Err (OutShort long)) out
   unfolding as_run
-  writes_short h t s =
+  writes_short l t s =
       let size = is t s.held in
-      subst (λ k. Wrote run_family (as_run (RAN e.ending e.steps t)) out (Refused (OutShort k)) out) (sym size)
+      subst (λ k. Wrote run_family (as_run (RAN e.ending e.steps t)) out (Err (OutShort k)) out) (sym size)
       (wrote_short run_family out refl (omega arith))
 
-  pub writes_all : {out' : List ℕ} → long ≤ length out → ((t : Plan ℕ) → HeldIn text m e.held t → out' ≡ put_at out 0 (print t))
-      → EndWritten text m e out (Ran e.ending e.steps e.size long) out'
+  pub writes_all : {out' : List ℕ} → long ≤ length out → ((t : Plan ℕ) → HeldIn text h t → out' ≡ put_at out 0 (print t))
+      → EndWritten text h e out (Ok (ran e.ending e.steps e.size long)) out'
   unfolding as_run
-  writes_all h prints t s =
+  writes_all l prints t s =
       let size = is t s.held in
       let w = wrote_fits run_family {o = as_run (RAN e.ending e.steps t)} out refl (omega arith) in
-      record { answer = ap₂ (Ran e.ending e.steps) s.sized size ∙ w.answer; output = prints t s.held ∙ put_front (print t) out ∙ w.output }
+      record {
+        answer = ap₂ (λ c k. Ok (ran e.ending e.steps c k)) s.sized size ∙ w.answer;
+        output = prints t s.held ∙ put_front (print t) out ∙ w.output;
+      }
 
 -- the run of the plan that was built is that of the plan that was read
 
 record SameRun (n quota : ℕ) (p : Plan ℕ) (e : Ended) (plan : Plan ℕ) : Type 0 where
   read_plan : Plan ℕ
-  ran : run_plan n quota p ≡ RAN e.ending e.steps read_plan
+  runs : run_plan n quota p ≡ RAN e.ending e.steps read_plan
   alike : bare read_plan ≡ bare plan
 
 same_run : (n quota : ℕ) (p : Plan ℕ) (e : Ended) (plan : Plan ℕ) → run_plan n quota (bare p) ≡ RAN e.ending e.steps (bare plan) → SameRun n quota p e plan
@@ -83,35 +82,33 @@ same_run n quota p e plan runs = go (run_plan n quota p) refl
         let there = sym (run_relabel (λ l. tt) n quota p is) ∙ runs in
         let ending_same : ending ≡ e.ending = cc in
         let steps_same : steps ≡ e.steps = cc in
-        record { read_plan = q; ran = is ∙ rw (ending_same, steps_same); alike = cc }
+        record { read_plan = q; runs = is ∙ rw (ending_same, steps_same); alike = cc }
 
 module _ {text m : List ℕ} (outer : Cell) {size : ℕ} (k : TextAccepted text m outer.0 size) where
   abbrev n : ℕ
   n = outer.0
 
   -- what `build_plan` built
-  module _ (m₁ : List ℕ) (h : Held) (built : (p : Plan ℕ) → read token_limit n text ≡ ACCEPTED p → HeldAlike text m₁ h p)
-      (kept : h.outer ≡ outer) (aside : Aside n m m₁) where
+  module _ (h : Held) (built : (p : Plan ℕ) → read token_limit n text ≡ ACCEPTED p → HeldAlike text h p) (kept : h.outer ≡ outer) where
     cell : h.outer.0 ≡ n
     cell = ap (λ (c : Cell). c.0) kept
 
     plan₁ : Plan ℕ
     plan₁ = (built k.plan k.reads).plan
 
-    sized₁ : Sized text m₁ h size plan₁
+    sized₁ : Sized text h size plan₁
     unfolding plan₁
     sized₁ =
         let b = built k.plan k.reads in
         record { held = b.held; sized = k.sized ∙ sym (cells-relabel (λ l. tt) k.plan) ∙ ap cells (sym b.alike) ∙ cells-relabel (λ l. tt) b.plan }
 
-    pub built_runnable : Runnable text m₁ h size
-    built_runnable = record { lent = subst (λ c. Lent c m₁) (sym cell) (lent-kept k.lent aside.as_long); plan = plan₁; sized = sized₁ }
+    pub built_runnable : Runnable text h size
+    built_runnable = record { plan = plan₁; sized = sized₁ }
 
     -- what the run left
-    module _ (quota : ℕ) (m₂ : List ℕ) (e : Ended) (ran : RunMade text m₁ h size quota m₂ e)
-        (same : e.held.outer ≡ h.outer) (aside₂ : Aside h.outer.0 m₁ m₂) where
-      end_plan : RanAs text h.outer.0 quota plan₁ m₂ e
-      end_plan = ran plan₁ sized₁
+    module _ (quota : ℕ) (h' : Held) (e : Ended) (made : RunMade text h size quota h' e) where
+      end_plan : RanAs text h.outer.0 quota plan₁ h' e
+      end_plan = made plan₁ sized₁
 
       the_run : SameRun n quota k.plan e end_plan.plan
       unfolding plan₁
@@ -126,47 +123,46 @@ module _ {text m : List ℕ} (outer : Cell) {size : ℕ} (k : TextAccepted text 
       cells_same : cells the_run.read_plan ≡ cells end_plan.plan
       cells_same = sym (cells-relabel (λ l. tt) the_run.read_plan) ∙ ap cells the_run.alike ∙ cells-relabel (λ l. tt) end_plan.plan
 
-      pub end_printable : Printable text m₂ e
+      pub end_printable : Printable text h' e
       end_printable =
           let accepted = read_accepted token_limit n text k.reads in
           let q = the_run.read_plan in
-          let fine = run_allowed n quota k.plan the_run.ran token_limit accepted.fine in
-          let few = run_cells n quota k.plan the_run.ran accepted.fits in
+          let fine = run_allowed n quota k.plan the_run.runs token_limit accepted.fine in
+          let few = run_cells n quota k.plan the_run.runs accepted.fits in
           record {
-            lent = subst (λ (c : Cell). Lent c.0 m₂) (sym same) (lent-kept built_runnable.lent aside₂.as_long);
             plan = end_plan.plan;
             sized = end_plan.sized;
             fits = subst (λ x. length x ≤ print_limit) printed-same
                 (le_trans (print-bound token_limit q (omega arith) fine) (mul-le-mul_left token_limit (le_trans few k.lent.few)));
           }
 
-      pub end_written : (out : List ℕ) {out' : List ℕ} {r : RunAnswer} → EndWritten text m₂ e out r out'
+      pub end_written : (out : List ℕ) {out' : List ℕ} {r : RunAnswer} → EndWritten text h' e out r out'
           → Wrote run_family (run_read n quota (read token_limit n text)) out r out'
       unfolding run_read as_run
       end_written out {out'} {r} writes =
           let q = the_run.read_plan in
           let w = writes end_plan.plan end_plan.sized in
           let same_outcome : as_run (RAN e.ending e.steps end_plan.plan) ≡ run_read n quota (read token_limit n text) =
-          sym (ap (run_read n quota) k.reads ∙ ap as_run the_run.ran
+          sym (ap (run_read n quota) k.reads ∙ ap as_run the_run.runs
           ∙ ap₂ (GIVES (record { ending = e.ending; steps = e.steps })) cells_same printed-same) in
           subst (λ o. Wrote run_family o out r out') same_outcome w
 
 -- RUN's refusals, where n cells are lent
 module _ (text : List ℕ) (n quota : ℕ) (out : List ℕ) where
-  pub refused_too_long : text_limit < length text → Wrote run_family (run_outcome standard n quota text) out (Refused (NotRead (Text TooLong))) out
+  pub refused_too_long : text_limit < length text → Wrote run_family (run_outcome standard n quota text) out (Err (NotRead (Text TooLong))) out
   refused_too_long h = wrote_refused run_family out (refuses_refused standard n quota text (text_too_long h))
 
-  pub refused_arena : length text ≤ text_limit → cell_limit < n → Wrote run_family (run_outcome standard n quota text) out (Refused BadArena) out
+  pub refused_arena : length text ≤ text_limit → cell_limit < n → Wrote run_family (run_outcome standard n quota text) out (Err BadArena) out
   refused_arena h g = wrote_refused run_family out (refuses_refused standard n quota text (bad_arena h g))
 
   -- a text that was accepted, or not read
-  module _ (short : length text ≤ text_limit) (few : n ≤ cell_limit) {a : ToldAcceptance} (told : a ≡ acceptance_told (accept standard n text)) where
-    pub refused-text : {u : Unread} → a ≡ NotAccepted u → Wrote run_family (run_outcome standard n quota text) out (Refused (NotRead u)) out
+  module _ (short : length text ≤ text_limit) (few : n ≤ cell_limit) where
+    pub refused-text : {u : Unread} → Err u ≡ acceptance_told (accept standard n text) → Wrote run_family (run_outcome standard n quota text) out (Err (NotRead u)) out
     unfolding run_read
-    refused-text e =
+    refused-text told =
         wrote_refused run_family out
         (runs_short standard n quota text short few
-        ∙ ap (run_read n quota) (sym (accept_short standard text n short) ∙ told_unread n text told e))
+        ∙ ap (run_read n quota) (sym (accept_short standard text n short) ∙ told_unread n text told))
 
     -- the cells as `Cell::new` makes them
     pub wrote_run : {outer : Cell} {out' : List ℕ} {r : RunAnswer} → outer.0 ≡ n
@@ -176,17 +172,17 @@ module _ (text : List ℕ) (n quota : ℕ) (out : List ℕ) where
         (subst (λ k. Wrote run_family (run_read k quota (read token_limit k text)) out r out') is w)
 
 -- what a run stands on
-pub accepted_cell : (text : List ℕ) (n : ℕ) → length text ≤ text_limit → n ≤ cell_limit → {a : ToldAcceptance} → a ≡ acceptance_told (accept standard n text)
-    → {outer : Cell} {c l : ℕ} (m : List ℕ) → outer.0 ≡ n → cell_numbers * n ≤ length m → a ≡ Accepted c l → TextAccepted text m outer.0 c
-accepted_cell text n short few told m is lent e =
-    let found = told_plan n text told e in
+pub accepted_cell : (text : List ℕ) (n : ℕ) → length text ≤ text_limit → n ≤ cell_limit → {s : Size} → Ok s ≡ acceptance_told (accept standard n text)
+    → {outer : Cell} (m : List ℕ) → outer.0 ≡ n → length m ≡ cell_numbers * n → TextAccepted text m outer.0 s.cells
+accepted_cell text n short few told m is lent =
+    let found = told_plan n text told in
     rw is
     (record {
       lent = record { room = lent; few = few };
       short = short;
       plan = found.plan;
       reads = (accepted_text standard n text found.accepted).reads;
-      sized = sym found.counted;
+      sized = sym (ap (λ s. s.cells) found.size);
     })
 
 -- the whole service

@@ -3,8 +3,7 @@
 use Rattle.std.specs.Prelude.{ℕ, ◌≡◌, List, length}
 use Rattle.kinds.specs.Limits.{standard}
 use Rattle.plan.specs.Outcomes.{Wrote, cleared}
-use Rattle.answers.specs.declared.RunAnswer.{RunAnswer}
-use Rattle.answers.specs.Run.{quarter, run_family, run_outcome}
+use Rattle.answers.specs.Run.{RunAnswer, quarter, run_family, run_outcome}
 
 pub record Runs (text : List ℕ) (quota : ℕ) (memory out : List ℕ) (r : RunAnswer) (memory' out' : List ℕ) : Type 0 where
   pub wrote : Wrote run_family (run_outcome standard (quarter (length memory)) quota text) out r out'

@@ -11,73 +11,77 @@ ghost use Rattle.answers.specs.Run.{quarter, run_family, run_read, run_outcome};
 ghost use Rattle.run.specs.Calls.{Runs};
 ghost use Rattle.run.specs.Writing.{EndWritten, Printable, TextAccepted};
 
-use answers::{RunAnswer, RunRefusal};
+use answers::{Ran, RunRefusal};
 use engine::Ended;
 use kinds::{Cell, Place};
 use loader::build_plan;
-use memory::{clear, print_into, printed_length};
+use memory::{Held, clear};
 use plan::{TextFault, Unread};
-use read::{ToldAcceptance, accept};
+use read::accept;
 
 // The answer of a run that ended, and its printed text in the output; or 18, and the output as it was.
-fn print_plan(text: &[u8], memory: &[u32], ended: Ended, output: &mut [u8]) -> RunAnswer
-    requires { Printable text.now memory.now ended }
-    ensures { EndWritten text.now memory.now ended output.old result output.new }
+fn print_plan(text: &[u8], held: &Held, ended: Ended, output: &mut [u8]) -> Result<Ran, RunRefusal>
+    requires { Printable text.now held.now ended }
+    ensures { EndWritten text.now held.now ended output.old result output.new }
 {
-    let held = ended.held;
-    let ending = ended.ending;
-    let length = printed_length(text, memory, held);
+    let length = held.printed_length(text);
     if output.len() < length as usize {
-        return RunAnswer::Refused(RunRefusal::OutShort(length));
+        return Err(RunRefusal::OutShort(length));
     }
-    print_into(text, memory, held, output, 0);
-    RunAnswer::Ran {
-        ending,
+    held.print_into(text, output, 0);
+    Ok(Ran {
+        ending: ended.ending,
         steps: ended.steps,
         cells: ended.size,
         length,
-    }
+    })
 }
 
-// RUN of a text that was accepted, before the clearing.
+// RUN of a text that was accepted, in the numbers of so many cells.
 fn run_accepted(
+    text: &[u8],
+    quota: u32,
+    numbers: &mut [u32],
+    output: &mut [u8],
+    outer: Cell,
+    size: u32,
+) -> Result<Ran, RunRefusal>
+    requires { TextAccepted text.now numbers.old outer.0 size }
+    ensures { Wrote run_family (run_read outer.0 quota (read token_limit outer.0 text.now)) output.old result output.new }
+{
+    let mut held = build_plan(text, numbers, outer);
+    let ended = engine::run(text, &mut held, size, quota);
+    print_plan(text, &held, ended, output)
+}
+
+// RUN before the clearing: 11 comes before 12, and 12 before what stands in the text.
+fn run_uncleared(
     text: &[u8],
     quota: u32,
     memory: &mut [u32],
     output: &mut [u8],
-    outer: Cell,
-    size: u32,
-) -> RunAnswer
-    requires { TextAccepted text.now memory.old outer.0 size }
-    ensures written { Wrote run_family (run_read outer.0 quota (read token_limit outer.0 text.now)) output.old result output.new }
-    ensures as_long { length memory.new ≡ length memory.old }
-{
-    let held = build_plan(text, memory, outer);
-    let ended = engine::run(text, memory, held, size, quota);
-    print_plan(text, memory, ended, output)
-}
-
-// RUN before the clearing: 11 comes before 12, and 12 before what stands in the text.
-fn run_uncleared(text: &[u8], quota: u32, memory: &mut [u32], output: &mut [u8]) -> RunAnswer
+) -> Result<Ran, RunRefusal>
     ensures written { Wrote run_family (run_outcome standard (quarter (length memory.old)) quota text.now) output.old result output.new }
     ensures as_long { length memory.new ≡ length memory.old }
 {
     let lent = memory.len() / Cell::NUMBERS;
     if Place::LIMIT < text.len() {
-        return RunAnswer::Refused(RunRefusal::NotRead(Unread::Text(TextFault::TooLong)));
+        return Err(RunRefusal::NotRead(Unread::Text(TextFault::TooLong)));
     }
     if Cell::LIMIT < lent {
-        return RunAnswer::Refused(RunRefusal::BadArena);
+        return Err(RunRefusal::BadArena);
     }
-    match accept(text, lent as u32) {
-        ToldAcceptance::NotRead(why) => RunAnswer::Refused(RunRefusal::NotRead(why)),
-        ToldAcceptance::Accepted { cells, length } => {
-            run_accepted(text, quota, memory, output, Cell::new(lent), cells)
-        }
-    }
+    let size = accept(text, lent as u32)?;
+    let numbers = &mut memory[..Cell::NUMBERS * lent];
+    run_accepted(text, quota, numbers, output, Cell::new(lent), size.cells)
 }
 
-pub fn run(text: &[u8], quota: u32, memory: &mut [u32], output: &mut [u8]) -> RunAnswer
+pub fn run(
+    text: &[u8],
+    quota: u32,
+    memory: &mut [u32],
+    output: &mut [u8],
+) -> Result<Ran, RunRefusal>
     ensures { Runs text.now quota memory.old output.old result memory.new output.new }
 {
     let answer = run_uncleared(text, quota, memory, output);

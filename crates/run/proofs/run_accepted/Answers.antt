@@ -5,16 +5,14 @@ use Rattle.run.proofs.run_accepted.Goals as goal
 pub run-ended-requires : goal.run-ended-requires
 run-ended-requires c =
     let built = c.build_plan-held.ensures in
-    built_runnable _ c.requires _ _ built.holds built.same_cells built.aside
+    built_runnable _ c.requires _ built.holds built.same_cells
 
 pub print_plan-requires : goal.print_plan-requires
 print_plan-requires c =
     let built = c.build_plan-held.ensures in
-    let ran = c.run-ended.ensures in
-    end_printable _ c.requires _ _ built.holds built.same_cells built.aside _ _ _ ran.ran ran.same_cells ran.aside
+    end_printable _ c.requires _ built.holds built.same_cells _ _ _ c.run-ended.ensures.ran
 
-pub returns-clause-written : goal.returns-clause-written
-returns-clause-written c =
+pub returns : goal.returns
+returns c =
     let built = c.build_plan-held.ensures in
-    let ran = c.run-ended.ensures in
-    end_written _ c.requires _ _ built.holds built.same_cells built.aside _ _ _ ran.ran ran.same_cells ran.aside _ c.print_plan.ensures
+    end_written _ c.requires _ built.holds built.same_cells _ _ _ c.run-ended.ensures.ran _ c.print_plan.ensures
