@@ -1,15 +1,15 @@
 -- Words that fit by themselves: how the code checks one, what one that fits has, and how a row of them is read.
 use Prim.Native.Nat.{ℕ, zero, suc, ◌-◌, ◌≤◌}
-use mathlib.Core.Path.{◌≡◌, refl, ap, ap₂, sym, subst, ◌∙◌}
+use mathlib.Core.Path.{◌≡◌, refl, ap, ap₂, sym, ◌∙◌}
 use mathlib.Core.Bool.{Bool, true, false, cond, not, ◌&&◌, and-false}
 use mathlib.Core.List.{List, ◌∷◌}
 use native.Mathlib.Omega.{arith}
 use borrow.Author.Tests.{eqb-false, eqb-true, not-true}
-use lib.Dec.{eqb, leb}
+use lib.Dec.{eqb}
 use lib.ListN.{length, drop}
 use lib.Seq.{drop-cons, drop-length}
 use Rattle.kinds.specs.Limits.{Limits, standard}
-use Rattle.std.specs.Prelude.{None, Some}
+use Rattle.std.specs.Prelude.{Some}
 use Rattle.plan.specs.Read.{acceptable}
 use Rattle.kinds.proofs.Tests.{and_true}
 use Rattle.stored.specs.Counted.{AtFront, CUT, FRONT}
@@ -18,7 +18,7 @@ use Rattle.stored.specs.Spans.{part}
 use Rattle.stored.specs.declared.Span.{Span}
 use Rattle.stored.proofs.Pairs.{two_counted_found}
 use Rattle.words_meaning.specs.Linking.{Word, listed, percent, stock_token}
-use Rattle.words_meaning.specs.Stock.{fits, is_name, name_limit, word}
+use Rattle.words_meaning.specs.Stock.{fits, is_name, word}
 use Rattle.words_meaning.proofs.Word.{word_found}
 use Rattle.words_check.specs.Checking.{FitThere, Fitting, fit_front, fitting, is_new_name, next_fitting}
 

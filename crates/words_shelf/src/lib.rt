@@ -17,8 +17,13 @@ pub struct WordAt {
     pub text: Span,
 }
 
-// Where the words of a list stand: of those ranks that have one.
+// Where the words of a list stand, by their ranks. Behind the last word there is none.
 pub type Words = [WordAt; MOST];
+
+pub const NO_WORD: WordAt = WordAt {
+    name: Span { at: 0, len: 0 },
+    text: Span { at: 0, len: 0 },
+};
 
 // The words of a list below a rank, each by where it stands.
 #[derive(Clone, Copy)]

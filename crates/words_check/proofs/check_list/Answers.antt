@@ -1,5 +1,5 @@
 -- `check_list`: the words that fit and the least that is used early tell what the list is.
-use Rattle.std.proofs.Common.{inl, inr, refl, sym, ◌∙◌, arith}
+use Rattle.std.proofs.Common.{refl, sym, ◌∙◌, arith}
 use Rattle.words_check.proofs.Verdict.{all_right, earliest_within, list_long, no_count, one_wrong, too_many}
 use Rattle.words_check.proofs.check_list.Goals as goal
 

@@ -1,5 +1,4 @@
 use Rattle.items.proofs.Walking.{on_walk, walk_begins, walk_over, walk_piece, walk_same}
-use Rattle.words_shelf.proofs.StandsFor.{passed_stands}
 use Rattle.words_check.proofs.Lowering.{least_first, least_last, least_on}
 use Rattle.words_check.proofs.least_named.Goals as goal
 
