@@ -3,7 +3,7 @@ use Prim.Native.Nat.{ℕ, ◌+◌, ◌≤◌, ◌<◌, min}
 use mathlib.Core.Path.{◌≡◌, refl, ap, ap₂, sym, subst, ◌∙◌}
 use mathlib.Core.Logic.{inl, inr}
 use mathlib.Core.Bool.{Bool, true, false, ◌&&◌, false≢true}
-use Rattle.std.specs.Prelude.{None as none}
+use Rattle.std.specs.Prelude.{None, Ok, Err}
 use mathlib.Core.List.{List, ◌∷◌, reverse}
 use native.Mathlib.Omega.{arith}
 use borrow.Author.Tests.{leb-true}
@@ -19,7 +19,7 @@ use Rattle.roll_rules.specs.EntriesBefore.{one_entry_more}
 use Rattle.roll_rules.specs.Rules.{digits, fault, is_job, job_limit}
 use Rattle.roll_format.specs.declared.EntryKind.{EntryKind}
 use Rattle.roll_format.specs.declared.EntryKind.TheVariants.{Filed, Done}
-use Rattle.roll_rules.specs.declared.RollAnswer.TheVariants.{Listed}
+use Rattle.roll_rules.specs.declared.Counts.{Counts}
 use Rattle.roll_rules.specs.declared.RollRefusal.{RollRefusal}
 use Rattle.roll_rules.specs.declared.RollRefusal.TheVariants.{NoRoom}
 use Rattle.roll_rules.specs.declared.Sums.{Sums}
@@ -29,10 +29,7 @@ use Rattle.roll_rules.proofs.Rules.{done_fine, filed_fine}
 use Rattle.roll_rules.proofs.Texts.{printed-text}
 use Rattle.roll_put.specs.Putting.{RoomFor, opening}
 use Rattle.roll_put.proofs.Bytes.{done_long, filed_long, new_long}
-use Rattle.roll_add.specs.Entering.{EnteredAs, FineRoll, JudgedWeighed, refused_entry}
-use Rattle.roll_add.specs.declared.Entered.{Entered}
-use Rattle.roll_add.specs.declared.Admission.{Admission}
-use Rattle.roll_add.specs.declared.Admission.TheVariants.{Refused}
+use Rattle.roll_add.specs.Entering.{Admission, EnteredAs, Entering, FineRoll, JudgedWeighed}
 
 -- how long a job number and a printed text can be
 
@@ -51,7 +48,7 @@ pub record ShortEntry (parts : List (List ℕ)) : Type 0 where
   pub few : length parts ≤ longest
   pub short : length (entry_bytes parts) ≤ longest
 
-pub short_entry : (kind : EntryKind) (job text : List ℕ) (earlier : List Entry) (place : ℕ) → fault standard earlier (record { place = place; parts = parts_of kind job text }) ≡ none
+pub short_entry : (kind : EntryKind) (job text : List ℕ) (earlier : List Entry) (place : ℕ) → fault standard earlier (record { place = place; parts = parts_of kind job text }) ≡ None
     → ShortEntry (parts_of kind job text)
 unfolding fault says
 short_entry Filed job text earlier place e =
@@ -65,42 +62,42 @@ short_entry Done job text earlier place e =
     record { storable = (omega arith, tt); few = omega arith; short = omega (arith, done_long job text) }
 
 module _ (buffer : List ℕ) (j : Judged) (parts : List (List ℕ)) where
-  refused : {q : RollRefusal} → JudgedWeighed j parts (length buffer) (Refused q) → EnteredAs (add_to edition_1 buffer j parts) (refused_entry q) buffer
-  refused {q} w = subst (λ (a : Added). EnteredAs a (refused_entry q) buffer) (sym (told w)) record { answer = refl; bytes = refl; more_filed = refl; more_done = refl }
+  refused : {q : RollRefusal} → JudgedWeighed j parts (length buffer) (Err q) → EnteredAs (add_to edition_1 buffer j parts) (Err q) buffer
+  refused {q} w = subst (λ (a : Added). EnteredAs a (Err q) buffer) (sym (told w)) record { answer = refl; bytes = refl; more_filed = refl; more_done = refl }
     where
-      told : JudgedWeighed j parts (length buffer) (Refused q) → add_to edition_1 buffer j parts ≡ not_added buffer q
+      told : JudgedWeighed j parts (length buffer) (Err q) → add_to edition_1 buffer j parts ≡ not_added buffer q
       told (inl e) = rw e (roll-first edition_1 buffer parts q)
       told (inr (es, end, reads, e)) = rw reads (fault-first edition_1 buffer parts es end e)
 
-  pub entry-refused : {x : Admission} {q : RollRefusal} {r : Entered} → JudgedWeighed j parts (length buffer) x → x ≡ Refused q → r ≡ refused_entry q
+  pub entry-refused : {x : Admission} {q : RollRefusal} {r : Entering} → JudgedWeighed j parts (length buffer) x → x ≡ Err q → r ≡ Err q
       → EnteredAs (add_to edition_1 buffer j parts) r buffer
   entry-refused w e said =
-      subst (λ (y : Entered). EnteredAs (add_to edition_1 buffer j parts) y buffer) (sym said) (refused (subst (JudgedWeighed j parts (length buffer)) e w))
+      subst (λ (y : Entering). EnteredAs (add_to edition_1 buffer j parts) y buffer) (sym said) (refused (subst (JudgedWeighed j parts (length buffer)) e w))
 
-  module _ {s : Sums} {f d : Bool} (w : FineRoll j parts (length buffer) s f d) {size last : ℕ} (sized : size ≡ length (entry_bytes parts)) (ends : last ≡ s.end + (length (opening s.end) + size)) where
+  module _ {s : Sums} {counts : Counts} (w : FineRoll j parts (length buffer) s counts.filed counts.done) {size last : ℕ} (sized : size ≡ length (entry_bytes parts)) (ends : last ≡ s.end + (length (opening s.end) + size)) where
     there : last ≡ s.end + length (new_bytes edition_1 s.end parts)
     there = omega (arith, ends, sized, new_long s.end parts)
 
-    pub entry-no_room : {q : ℕ} {r : Entered} → length buffer < last → q ≡ min last longest → r ≡ refused_entry (NoRoom q) → EnteredAs (add_to edition_1 buffer j parts) r buffer
+    pub entry-no_room : {q : ℕ} {r : Entering} → length buffer < last → q ≡ min last longest → r ≡ Err (NoRoom q) → EnteredAs (add_to edition_1 buffer j parts) r buffer
     entry-no_room {q} {r} h capped said =
         let e : NoRoom q ≡ NoRoom (min (s.end + length (new_bytes edition_1 s.end parts)) longest) = ap NoRoom (capped ∙ ap (λ k. min k longest) there) in
         let is : add_to edition_1 buffer j parts ≡ not_added buffer (NoRoom q) =
         ap (λ x. add_to edition_1 buffer x parts) w.reads ∙ room_last edition_1 buffer parts w.es s.end w.fine (omega (arith, there)) ∙ ap (not_added buffer) (sym e) in
-        let it : EnteredAs (not_added buffer (NoRoom q)) (refused_entry (NoRoom q)) buffer = record { answer = refl; bytes = refl; more_filed = refl; more_done = refl } in
-        subst (λ (a : Added). EnteredAs a r buffer) (sym is) (subst (λ (y : Entered). EnteredAs (not_added buffer (NoRoom q)) y buffer) (sym said) it)
+        let it : EnteredAs (not_added buffer (NoRoom q)) (Err (NoRoom q)) buffer = record { answer = refl; bytes = refl; more_filed = refl; more_done = refl } in
+        subst (λ (a : Added). EnteredAs a r buffer) (sym is) (subst (λ (y : Entering). EnteredAs (not_added buffer (NoRoom q)) y buffer) (sym said) it)
 
     module _ (room : last ≤ length buffer) where
       pub entry-fits : Storable parts → RoomFor buffer s.end parts
-      entry-fits counts = record { storable = counts; room = omega (arith, there) }
+      entry-fits storable = record { storable = storable; room = omega (arith, there) }
 
-      pub entry-added : {s' : Sums} {buffer' : List ℕ} → s' ≡ one_entry_more s f d last → buffer' ≡ put_at buffer s.end (new_bytes edition_1 s.end parts)
-          → EnteredAs (add_to edition_1 buffer j parts) (record { answer = Listed s'; filed = f; done = d }) buffer'
+      pub entry-added : {s' : Sums} {buffer' : List ℕ} → s' ≡ one_entry_more s counts.filed counts.done last → buffer' ≡ put_at buffer s.end (new_bytes edition_1 s.end parts)
+          → EnteredAs (add_to edition_1 buffer j parts) (Ok (record { sums = s'; counts = counts })) buffer'
       entry-added {s'} {buffer'} counted made =
           let is = ap (λ x. add_to edition_1 buffer x parts) w.reads ∙ entry_made edition_1 buffer parts w.es s.end w.fine (omega (arith, there)) in
           let few : length (reverse w.es) < largest = omega (arith, w.few, w.within, w.short, ap (λ (x : Sums). x.entries) w.comes) in
           let new = new_entry s.end parts in
           let sum : s' ≡ sums (new ∷ reverse w.es) (s.end + length (new_bytes edition_1 s.end parts)) =
-          counted ∙ ap (λ (x : Sums). one_entry_more x f d last) w.comes ∙ ap₂ (λ a b. one_entry_more (sums (reverse w.es) s.end) a b last) w.filed_so w.done_so
+          counted ∙ ap (λ (x : Sums). one_entry_more x counts.filed counts.done last) w.comes ∙ ap₂ (λ a b. one_entry_more (sums (reverse w.es) s.end) a b last) w.filed_so w.done_so
           ∙ sums_on (reverse w.es) new s.end last few ∙ ap (sums (new ∷ reverse w.es)) there in
-          subst (λ (a : Added). EnteredAs a (record { answer = Listed s'; filed = f; done = d }) buffer') (sym is)
-          record { answer = ap Listed sum; bytes = made; more_filed = w.filed_so; more_done = w.done_so }
+          subst (λ (a : Added). EnteredAs a (Ok (record { sums = s'; counts = counts })) buffer') (sym is)
+          record { answer = ap Ok sum; bytes = made; more_filed = w.filed_so; more_done = w.done_so }

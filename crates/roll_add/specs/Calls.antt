@@ -1,7 +1,6 @@
 -- What adding an entry promises: every number of the answer, every byte of the buffer lent, and both numbers of the tally lent.
 use Rattle.std.specs.Prelude.{ℕ, ◌≡◌, List}
-use Rattle.roll_rules.specs.Answers.{Added, grown}
-use Rattle.roll_rules.specs.declared.RollAnswer.{RollAnswer}
+use Rattle.roll_rules.specs.Answers.{Added, RollAnswer, grown}
 use Rattle.roll_rules.specs.declared.Tally.{Tally}
 
 -- the answer, the buffer and the tally that a call gives back

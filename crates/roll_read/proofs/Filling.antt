@@ -6,6 +6,7 @@ use mathlib.Core.List.{List, [], ◌∷◌, ◌++◌, append_assoc}
 use native.Mathlib.Omega.{arith}
 use lib.ListN.{length, drop, get_or, set, length-append, length-drop}
 use lib.Seq.{drop-cons, set_at}
+use Rattle.std.specs.Prelude.{Option}
 use Rattle.roll_entries.specs.declared.EntryAt.{EntryAt}
 use Rattle.roll_entries.specs.Entries.{entry_at, next_told}
 use Rattle.roll_entries.proofs.Parts.{entry_tells}
@@ -78,9 +79,9 @@ module _ {bytes : List ℕ} {end : ℕ} {list₀ list : List ℕ} {at put : ℕ}
     pub filled-small : at < longest
     filled-small = omega (arith, here.low, here.high, f.short)
 
-    module _ (x : EntryAt) (next : ℕ) (is : x ≡ entry_at bytes at) (there : next ≡ next_told x end) where
+    module _ (x : Option EntryAt) (next : ℕ) (is : x ≡ entry_at bytes at) (there : next ≡ next_told x end) where
       far : next ≡ here.next
-      far = there ∙ ap (λ (y : EntryAt). next_told y end) is ∙ (entry_tells bytes at here.next here.high here.first.parts here.whole).behind end
+      far = there ∙ ap (λ (y : Option EntryAt). next_told y end) is ∙ (entry_tells bytes at here.next here.high here.first.parts here.whole).behind end
 
       pub filled_less : end - next < end - at
       filled_less = omega (arith, far, here.low, stands_within bytes here.next end here.others here.stand)

@@ -3,7 +3,7 @@ use Prim.Native.Nat.{ℕ, ◌+◌, ◌-◌, ◌*◌, ◌≤◌, ◌<◌}
 use mathlib.Core.Path.{◌≡◌, refl, ap, ap₂, sym, subst, ◌∙◌}
 use mathlib.Core.Logic.{◌≢◌}
 use mathlib.Core.Bool.{Bool, cond}
-use Rattle.std.specs.Prelude.{Option, None as none, Some as some}
+use Rattle.std.specs.Prelude.{Option, Some, None, Ok, Err}
 use mathlib.Core.List.{List, [], ◌∷◌, ◌++◌, append-nil, reverse, reverse-append}
 use native.Mathlib.Omega.{arith}
 use borrow.Author.Tests.{eq-eqb, le-ltb, lt-ltb, ne_eqb}
@@ -17,7 +17,7 @@ use Rattle.roll_format.specs.Format.{Entry, Listing, entry, listing, longest, pa
 use Rattle.roll_rules.specs.Rules.{broken, counts_done, counts_filed, done, fault, fault_of, filed}
 use Rattle.roll_rules.specs.EntriesBefore.{EntriesBefore, HasEntriesBefore, one_entry_more}
 use Rattle.roll_format.specs.EntriesStand.{EntriesStand}
-use Rattle.roll_rules.specs.declared.RollAnswer.TheVariants.{Listed, Refused}
+use Rattle.roll_rules.specs.declared.Counts.{Counts}
 use Rattle.roll_rules.specs.declared.RollRefusal.{RollRefusal}
 use Rattle.roll_rules.specs.declared.RollRefusal.TheVariants.{TooLong, BadRoll}
 use Rattle.roll_rules.specs.declared.Sums.{Sums}
@@ -25,56 +25,53 @@ use Rattle.roll_rules.proofs.Growing.{sums_on}
 use Rattle.roll_format.proofs.Format.{entry-there, front_end, front_entries, in_front, listing-cut, listing_stands, listing-whole, stands_on}
 use Rattle.roll_rules.proofs.Rules.{broken-at, obeyed_on}
 use Rattle.roll_entries.specs.declared.EntryAt.{EntryAt}
-use Rattle.roll_entries.specs.declared.EntryAt.TheVariants.{Torn as TornEntry, Known, Other}
+use Rattle.roll_entries.specs.declared.EntryAt.TheVariants.{Known, Other}
 use Rattle.roll_entries.specs.Entries.{entry_at}
 use Rattle.roll_entries.proofs.Parts.{EntryFound, KnownAt, entry_found}
 use Rattle.roll_format.specs.declared.EntryKind.{EntryKind}
 use Rattle.stored.specs.Spans.{part}
 use Rattle.stored.specs.declared.Span.{Span}
-use Rattle.roll_weigh.specs.Weighed.{weighed_at, weight_told}
-use Rattle.roll_weigh.specs.declared.Weighed.{Weighed}
-use Rattle.roll_weigh.specs.declared.Weighed.TheVariants.{Fine as FineWeight, Faulty}
-use Rattle.roll_read.specs.Judging.{entry_judged, judged_as, weight_judged}
+use Rattle.roll_weigh.specs.Weighed.{Weighed, weighed_at, weight_told}
+use Rattle.roll_read.specs.Judging.{Judgement, entry_judged, judged_as, judged_entry, weight_judged}
 use Rattle.roll_read.specs.declared.JudgedEntry.{JudgedEntry}
-use Rattle.roll_read.specs.declared.JudgedEntry.TheVariants.{Torn, Broken, Fine}
 
 -- one entry, by what the code finds it to be
 
-module _ (bytes : List ℕ) (at : ℕ) {x : EntryAt} (is : x ≡ entry_at bytes at) where
-  found : {y : EntryAt} → x ≡ y → EntryFound bytes at y
+module _ (bytes : List ℕ) (at : ℕ) {x : Option EntryAt} (is : x ≡ entry_at bytes at) where
+  found : {y : Option EntryAt} → x ≡ y → EntryFound bytes at y
   found e = subst (EntryFound bytes at) (sym is ∙ e) (entry_found bytes at)
 
-  pub known : {kind : EntryKind} {job text : Span} {next : ℕ} → x ≡ Known kind job text next → KnownAt bytes at kind job text next
+  pub known : {kind : EntryKind} {job text : Span} {next : ℕ} → x ≡ Some (Known kind job text next) → KnownAt bytes at kind job text next
   known e = found e
 
   module _ (earlier : List Entry) where
-    pub torn_judged : x ≡ TornEntry → Torn ≡ entry_judged earlier at (entry (drop at bytes)) bytes
+    pub torn_judged : x ≡ None → Ok None ≡ entry_judged earlier at (entry (drop at bytes)) bytes
     unfolding entry_judged
     torn_judged e = sym (ap (λ f. entry_judged earlier at f bytes) (found e))
 
-    pub other_judged : {next : ℕ} → x ≡ Other next → Broken ≡ entry_judged earlier at (entry (drop at bytes)) bytes
+    pub other_judged : {next : ℕ} → x ≡ Some (Other next) → Err (BadRoll at) ≡ entry_judged earlier at (entry (drop at bytes)) bytes
     unfolding entry_judged weighed_at fault fault_of
     other_judged e =
         let o = found e in
-        let wrong : fault standard earlier (record { place = at; parts = o.parts }) ≡ some (BadRoll at) = ap (fault_of standard earlier at) o.neither in
+        let wrong : fault standard earlier (record { place = at; parts = o.parts }) ≡ Some (BadRoll at) = ap (fault_of standard earlier at) o.neither in
         sym (ap (λ f. entry_judged earlier at f bytes) o.whole
-        ∙ ap (λ w. weight_judged (weight_told w (counts_filed earlier (says o.parts)) (counts_done (says o.parts))) (length bytes - length o.rest)) wrong)
+        ∙ ap (λ w. weight_judged at (weight_told w (counts_filed earlier (says o.parts)) (counts_done (says o.parts))) (length bytes - length o.rest)) wrong)
 
-    module _ {kind : EntryKind} {job text : Span} {next : ℕ} (e : x ≡ Known kind job text next) {j t : List ℕ} (one : j ≡ part bytes job) (two : t ≡ part bytes text)
+    module _ {kind : EntryKind} {job text : Span} {next : ℕ} (e : x ≡ Some (Known kind job text next)) {j t : List ℕ} (one : j ≡ part bytes job) (two : t ≡ part bytes text)
         {w : Weighed} (weighs : w ≡ weighed_at earlier at (parts_of kind j t)) where
-      by_weight : weight_judged w next ≡ entry_judged earlier at (entry (drop at bytes)) bytes
+      by_weight : weight_judged at w next ≡ entry_judged earlier at (entry (drop at bytes)) bytes
       unfolding entry_judged
       by_weight =
           let k = known e in
-          ap (λ (v : Weighed). weight_judged v next) (weighs ∙ ap₂ (λ a b. weighed_at earlier at (parts_of kind a b)) one two)
-          ∙ ap (weight_judged (weighed_at earlier at (parts_of kind (part bytes job) (part bytes text)))) k.there
+          ap (λ (v : Weighed). weight_judged at v next) (weighs ∙ ap₂ (λ a b. weighed_at earlier at (parts_of kind a b)) one two)
+          ∙ ap (weight_judged at (weighed_at earlier at (parts_of kind (part bytes job) (part bytes text)))) k.there
           ∙ sym (ap (λ f. entry_judged earlier at f bytes) k.whole)
 
-      pub faulty_judged : {r : RollRefusal} → w ≡ Faulty r → Broken ≡ entry_judged earlier at (entry (drop at bytes)) bytes
-      faulty_judged h = sym (ap (λ (v : Weighed). weight_judged v next) h) ∙ by_weight
+      pub faulty_judged : {r : RollRefusal} → w ≡ Err r → Err (BadRoll at) ≡ entry_judged earlier at (entry (drop at bytes)) bytes
+      faulty_judged h = sym (ap (λ (v : Weighed). weight_judged at v next) h) ∙ by_weight
 
-      pub fine_judged : {f d : Bool} → w ≡ FineWeight f d → Fine next f d ≡ entry_judged earlier at (entry (drop at bytes)) bytes
-      fine_judged h = sym (ap (λ (v : Weighed). weight_judged v next) h) ∙ by_weight
+      pub fine_judged : {counts : Counts} → w ≡ Ok counts → Ok (Some (judged_entry next counts)) ≡ entry_judged earlier at (entry (drop at bytes)) bytes
+      fine_judged h = sym (ap (λ (v : Weighed). weight_judged at v next) h) ∙ by_weight
 
 -- what was judged of an entry says what stands there
 
@@ -82,59 +79,61 @@ module _ (earlier : List Entry) (at : ℕ) (bytes : List ℕ) where
   abbrev entry_of : List (List ℕ) → Entry
   entry_of parts = record { place = at; parts = parts }
 
-  unjudge_torn : (x : AtFront (List (List ℕ))) → Torn ≡ entry_judged earlier at x bytes → x ≡ CUT
+  unjudge_torn : (x : AtFront (List (List ℕ))) → Ok None ≡ entry_judged earlier at x bytes → x ≡ CUT
   unfolding entry_judged weighed_at
   unjudge_torn CUT e = refl
   unjudge_torn (FRONT parts rest) e = go (fault standard earlier (entry_of parts)) e
     where
-      go : (o : Option RollRefusal) → Torn ≡ weight_judged (weight_told o (counts_filed earlier (says parts)) (counts_done (says parts))) (length bytes - length rest) → FRONT parts rest ≡ CUT
-      go none h = never cc
-      go (some r) h = never cc
+      go : (o : Option RollRefusal) → Ok None ≡ weight_judged at (weight_told o (counts_filed earlier (says parts)) (counts_done (says parts))) (length bytes - length rest) → FRONT parts rest ≡ CUT
+      go None h = never cc
+      go (Some r) h = never cc
 
-  record FaultyEntry (x : AtFront (List (List ℕ))) : Type 0 where
+  record FaultyEntry (x : AtFront (List (List ℕ))) (told : RollRefusal) : Type 0 where
     parts : List (List ℕ)
     rest : List ℕ
     whole : x ≡ FRONT parts rest
     why : RollRefusal
-    wrong : fault standard earlier (entry_of parts) ≡ some why
+    wrong : fault standard earlier (entry_of parts) ≡ Some why
+    by_place : told ≡ BadRoll at
 
-  unjudge_broken : (x : AtFront (List (List ℕ))) → Broken ≡ entry_judged earlier at x bytes → FaultyEntry x
+  unjudge_broken : (x : AtFront (List (List ℕ))) {q : RollRefusal} → Err q ≡ entry_judged earlier at x bytes → FaultyEntry x q
   unfolding entry_judged weighed_at
   unjudge_broken CUT e = never cc
-  unjudge_broken (FRONT parts rest) e = go (fault standard earlier (entry_of parts)) refl e
+  unjudge_broken (FRONT parts rest) {q} e = go (fault standard earlier (entry_of parts)) refl e
     where
       go : (o : Option RollRefusal) → fault standard earlier (entry_of parts) ≡ o
-          → Broken ≡ weight_judged (weight_told o (counts_filed earlier (says parts)) (counts_done (says parts))) (length bytes - length rest) → FaultyEntry (FRONT parts rest)
-      go none h g = never cc
-      go (some r) h g = record { parts = parts; rest = rest; whole = refl; why = r; wrong = h }
+          → Err q ≡ weight_judged at (weight_told o (counts_filed earlier (says parts)) (counts_done (says parts))) (length bytes - length rest) → FaultyEntry (FRONT parts rest) q
+      go None h g = never cc
+      go (Some r) h g = record { parts = parts; rest = rest; whole = refl; why = r; wrong = h; by_place = let same : q ≡ BadRoll at = cc in same }
 
-  record FineEntry (x : AtFront (List (List ℕ))) (next : ℕ) (f d : Bool) : Type 0 where
+  record FineEntry (x : AtFront (List (List ℕ))) (next : ℕ) (counts : Counts) : Type 0 where
     parts : List (List ℕ)
     rest : List ℕ
     whole : x ≡ FRONT parts rest
-    fine : fault standard earlier (entry_of parts) ≡ none
+    fine : fault standard earlier (entry_of parts) ≡ None
     there : next ≡ length bytes - length rest
-    more_filed : f ≡ counts_filed earlier (says parts)
-    more_done : d ≡ counts_done (says parts)
+    more_filed : counts.filed ≡ counts_filed earlier (says parts)
+    more_done : counts.done ≡ counts_done (says parts)
 
-  unjudge_fine : (x : AtFront (List (List ℕ))) {next : ℕ} {f d : Bool} → Fine next f d ≡ entry_judged earlier at x bytes → FineEntry x next f d
+  unjudge_fine : (x : AtFront (List (List ℕ))) {next : ℕ} {counts : Counts} → Ok (Some (judged_entry next counts)) ≡ entry_judged earlier at x bytes → FineEntry x next counts
   unfolding entry_judged weighed_at
   unjudge_fine CUT e = never cc
-  unjudge_fine (FRONT parts rest) {next} {f} {d} e = go (fault standard earlier (entry_of parts)) refl e
+  unjudge_fine (FRONT parts rest) {next} {counts} e = go (fault standard earlier (entry_of parts)) refl e
     where
       go : (o : Option RollRefusal) → fault standard earlier (entry_of parts) ≡ o
-          → Fine next f d ≡ weight_judged (weight_told o (counts_filed earlier (says parts)) (counts_done (says parts))) (length bytes - length rest) → FineEntry (FRONT parts rest) next f d
-      go none h g =
+          → Ok (Some (judged_entry next counts)) ≡ weight_judged at (weight_told o (counts_filed earlier (says parts)) (counts_done (says parts))) (length bytes - length rest) → FineEntry (FRONT parts rest) next counts
+      go None h g =
+          let same : judged_entry next counts ≡ judged_entry (length bytes - length rest) (record { filed = counts_filed earlier (says parts); done = counts_done (says parts) }) = cc in
           record {
             parts = parts;
             rest = rest;
             whole = refl;
             fine = h;
-            there = let z : next ≡ length bytes - length rest = cc in z;
-            more_filed = let z : f ≡ counts_filed earlier (says parts) = cc in z;
-            more_done = let z : d ≡ counts_done (says parts) = cc in z;
+            there = ap (λ (j : JudgedEntry). j.next) same;
+            more_filed = ap (λ (j : JudgedEntry). j.counts.filed) same;
+            more_done = ap (λ (j : JudgedEntry). j.counts.done) same;
           }
-      go (some r) h g = never cc
+      go (Some r) h g = never cc
 
 pub record JudgedSoFar (bytes : List ℕ) (s : Sums) : Type 0 where
   pub es : List Entry
@@ -143,7 +142,7 @@ pub record JudgedSoFar (bytes : List ℕ) (s : Sums) : Type 0 where
   pub short : length bytes ≤ longest
   pub comes : s ≡ sums (reverse es) s.end
   pub few : 4 * s.entries < s.end
-  pub obeyed : broken standard [] es ≡ none
+  pub obeyed : broken standard [] es ≡ None
 
 pub judged-first : {bytes : List ℕ} → 1 ≤ length bytes → length bytes ≤ longest → JudgedSoFar bytes (record { entries = 0; filed = 0; done = 0; end = 1 })
 unfolding filed done broken
@@ -160,11 +159,11 @@ module _ {bytes : List ℕ} {s : Sums} (j : JudgedSoFar bytes s) where
   all : listing 0 1 (drop 1 bytes) ≡ in_front j.es (listing 0 s.end (drop s.end bytes))
   all = listing_stands bytes 1 s.end j.es j.stand
 
-  module _ {r : JudgedEntry} (judges : (es : List Entry) → EntriesBefore bytes es s.end → r ≡ entry_judged (reverse es) s.end (entry (drop s.end bytes)) bytes) where
+  module _ {r : Judgement} (judges : (es : List Entry) → EntriesBefore bytes es s.end → r ≡ entry_judged (reverse es) s.end (entry (drop s.end bytes)) bytes) where
     weight : r ≡ entry_judged (reverse j.es) s.end (entry (drop s.end bytes)) bytes
     weight = judges j.es before
 
-    pub judged_torn : r ≡ Torn → Listed s ≡ judged_as (by_rules standard (some (listing 0 1 (drop 1 bytes))))
+    pub judged_torn : r ≡ Ok None → Ok s ≡ judged_as (by_rules standard (Some (listing 0 1 (drop 1 bytes))))
     unfolding by_rules unbroken
     judged_torn e =
         let cut = unjudge_torn (reverse j.es) s.end bytes (entry (drop s.end bytes)) (sym e ∙ weight) in
@@ -173,10 +172,10 @@ module _ {bytes : List ℕ} {s : Sums} (j : JudgedSoFar bytes s) where
         ap (λ (l : Listing). l.entries) all ∙ front_entries j.es _ ∙ ap (λ (l : Listing). j.es ++ l.entries) rest ∙ append-nil j.es in
         let ends : (listing 0 1 (drop 1 bytes)).end ≡ s.end =
         ap (λ (l : Listing). l.end) all ∙ front_end j.es _ ∙ ap (λ (l : Listing). l.end) rest in
-        let fine : broken standard [] (listing 0 1 (drop 1 bytes)).entries ≡ none = ap (broken standard []) listed ∙ j.obeyed in
-        ap Listed j.comes ∙ sym (rw (fine, listed, ends) refl)
+        let fine : broken standard [] (listing 0 1 (drop 1 bytes)).entries ≡ None = ap (broken standard []) listed ∙ j.obeyed in
+        ap Ok j.comes ∙ sym (rw (fine, listed, ends) refl)
 
-    pub judged-broken : r ≡ Broken → Refused (BadRoll s.end) ≡ judged_as (by_rules standard (some (listing 0 1 (drop 1 bytes))))
+    pub judged-broken : {q : RollRefusal} → r ≡ Err q → Err q ≡ judged_as (by_rules standard (Some (listing 0 1 (drop 1 bytes))))
     unfolding by_rules unbroken with_first
     judged-broken e =
         let f = unjudge_broken (reverse j.es) s.end bytes (entry (drop s.end bytes)) (sym e ∙ weight) in
@@ -186,18 +185,18 @@ module _ {bytes : List ℕ} {s : Sums} (j : JudgedSoFar bytes s) where
         let listed : (listing 0 1 (drop 1 bytes)).entries ≡ j.es ++ first ∷ others =
         ap (λ (l : Listing). l.entries) all ∙ front_entries j.es _
         ∙ ap (λ (l : Listing). j.es ++ l.entries) (listing-whole bytes s.end next (f.whole ∙ ap (FRONT f.parts) is) low high) in
-        let breaks : broken standard [] (listing 0 1 (drop 1 bytes)).entries ≡ some s.end =
+        let breaks : broken standard [] (listing 0 1 (drop 1 bytes)).entries ≡ Some s.end =
         ap (broken standard []) listed ∙ broken-at standard j.es j.obeyed first f.wrong others in
-        sym (rw breaks refl)
+        ap Err f.by_place ∙ sym (rw breaks refl)
 
-    module _ {next : ℕ} {f d : Bool} (fine : r ≡ Fine next f d) where
-      its : FineEntry (reverse j.es) s.end bytes (entry (drop s.end bytes)) next f d
+    module _ {i : JudgedEntry} (fine : r ≡ Ok (Some i)) where
+      its : FineEntry (reverse j.es) s.end bytes (entry (drop s.end bytes)) i.next i.counts
       its = unjudge_fine (reverse j.es) s.end bytes (entry (drop s.end bytes)) (sym fine ∙ weight)
 
       there : (n : ℕ) × (its.rest ≡ drop n bytes) × (s.end + 4 ≤ n) × (n ≤ length bytes)
       there = entry-there bytes s.end j.within its.whole
 
-      next_is : next ≡ there.0
+      next_is : i.next ≡ there.0
       next_is = let high = there.3 in its.there ∙ omega (arith, ap length there.1, length-drop there.0 bytes)
 
       first : Entry
@@ -206,13 +205,13 @@ module _ {bytes : List ℕ} {s : Sums} (j : JudgedSoFar bytes s) where
       pub judged_room : s.entries < largest
       judged_room = omega (arith, j.few, j.short, j.within)
 
-      pub judged-next : next ≤ length bytes
+      pub judged-next : i.next ≤ length bytes
       judged-next = let high = there.3 in omega (arith, next_is)
 
-      pub judged_less : {s' : Sums} → s' ≡ one_entry_more s f d next → length bytes - s'.end < length bytes - s.end
+      pub judged_less : {s' : Sums} → s' ≡ one_entry_more s i.counts.filed i.counts.done i.next → length bytes - s'.end < length bytes - s.end
       judged_less e = let low = there.2 in let high = there.3 in omega (arith, next_is, ap (λ (x : Sums). x.end) e)
 
-      on : JudgedSoFar bytes (one_entry_more s f d next)
+      on : JudgedSoFar bytes (one_entry_more s i.counts.filed i.counts.done i.next)
       unfolding first
       on =
           let low = there.2 in
@@ -226,20 +225,20 @@ module _ {bytes : List ℕ} {s : Sums} (j : JudgedSoFar bytes s) where
             within = judged-next;
             short = j.short;
             comes =
-                ap (λ (x : Sums). one_entry_more x f d next) j.comes ∙ ap₂ (λ a b. one_entry_more (sums (reverse j.es) s.end) a b next) its.more_filed its.more_done
-                ∙ sums_on (reverse j.es) first s.end next many
-                ∙ ap (λ earlier. sums earlier next) (sym newest);
+                ap (λ (x : Sums). one_entry_more x i.counts.filed i.counts.done i.next) j.comes ∙ ap₂ (λ a b. one_entry_more (sums (reverse j.es) s.end) a b i.next) its.more_filed its.more_done
+                ∙ sums_on (reverse j.es) first s.end i.next many
+                ∙ ap (λ earlier. sums earlier i.next) (sym newest);
             few = omega (arith, j.few, next_is);
             obeyed = obeyed_on standard j.es j.obeyed first its.fine;
           }
 
-      pub judged_on : {s' : Sums} → s' ≡ one_entry_more s f d next → JudgedSoFar bytes s'
+      pub judged_on : {s' : Sums} → s' ≡ one_entry_more s i.counts.filed i.counts.done i.next → JudgedSoFar bytes s'
       judged_on e = subst (JudgedSoFar bytes) (sym e) on
 
 -- a whole roll
 
 module _ (bytes : List ℕ) where
-  pub judged_too_long : longest < length bytes → Refused TooLong ≡ judged_as (judged edition_1 bytes)
+  pub judged_too_long : longest < length bytes → Err TooLong ≡ judged_as (judged edition_1 bytes)
   unfolding judged
   judged_too_long h = rw (lt-ltb longest (length bytes) h) refl
 
@@ -248,7 +247,7 @@ module _ (bytes : List ℕ) where
     unfolding judged
     by = rw (le-ltb longest (length bytes) short) refl
 
-    pub judged_empty : length bytes ≡ 0 → Listed (record { entries = 0; filed = 0; done = 0; end = 0 }) ≡ judged_as (judged edition_1 bytes)
+    pub judged_empty : length bytes ≡ 0 → Ok (record { entries = 0; filed = 0; done = 0; end = 0 }) ≡ judged_as (judged edition_1 bytes)
     unfolding by_rules unbroken broken roll filed done
     judged_empty e = sym (ap judged_as (by ∙ ap (λ b. by_rules standard (roll 1 b)) (nothing bytes e)))
       where
@@ -260,12 +259,12 @@ module _ (bytes : List ℕ) where
       split : bytes ≡ get_or bytes 0 0 ∷ drop 1 bytes
       split = drop-cons bytes 0 0 (omega arith)
 
-      pub judged-first_byte : get_or bytes 0 0 ≢ 1 → Refused (BadRoll 0) ≡ judged_as (judged edition_1 bytes)
+      pub judged-first_byte : get_or bytes 0 0 ≢ 1 → Err (BadRoll 0) ≡ judged_as (judged edition_1 bytes)
       unfolding by_rules roll
       judged-first_byte h = sym (ap judged_as (by ∙ ap (λ b. by_rules standard (roll 1 b)) split
-          ∙ ap (λ t. by_rules standard (cond t (some (listing 0 1 (drop 1 bytes))) none)) (ne_eqb (get_or bytes 0 0) 1 h)))
+          ∙ ap (λ t. by_rules standard (cond t (Some (listing 0 1 (drop 1 bytes))) None)) (ne_eqb (get_or bytes 0 0) 1 h)))
 
-      pub judged_by_entries : get_or bytes 0 0 ≡ 1 → judged_as (by_rules standard (some (listing 0 1 (drop 1 bytes)))) ≡ judged_as (judged edition_1 bytes)
+      pub judged_by_entries : get_or bytes 0 0 ≡ 1 → judged_as (by_rules standard (Some (listing 0 1 (drop 1 bytes)))) ≡ judged_as (judged edition_1 bytes)
       unfolding roll
       judged_by_entries one =
-          sym (ap judged_as (by ∙ ap (λ b. by_rules standard (roll 1 b)) split ∙ ap (λ t. by_rules standard (cond t (some (listing 0 1 (drop 1 bytes))) none)) (eq-eqb (get_or bytes 0 0) 1 one)))
+          sym (ap judged_as (by ∙ ap (λ b. by_rules standard (roll 1 b)) split ∙ ap (λ t. by_rules standard (cond t (Some (listing 0 1 (drop 1 bytes))) None)) (eq-eqb (get_or bytes 0 0) 1 one)))

@@ -4,13 +4,12 @@ use mathlib.Core.Path.{◌≡◌, refl, ap, sym, ◌∙◌, subst}
 use mathlib.Core.List.{List, reverse}
 use native.Mathlib.Omega.{arith}
 use lib.ListN.{length, length-reverse}
+use Rattle.std.specs.Prelude.{Ok, Err}
 use Rattle.kinds.proofs.Tests.{never}
-use Rattle.roll_rules.specs.Answers.{Judged, ENTRIES, REFUSED, Read, edition_1, judged, places, read_roll, sums}
+use Rattle.roll_rules.specs.Answers.{Judged, ENTRIES, REFUSED, Read, RollAnswer, edition_1, judged, places, read_roll, sums}
 use Rattle.roll_format.specs.Format.{Entry}
 use Rattle.roll_rules.specs.EntriesBefore.{EntriesBefore}
 use Rattle.roll_format.specs.EntriesStand.{EntriesStand}
-use Rattle.roll_rules.specs.declared.RollAnswer.{RollAnswer}
-use Rattle.roll_rules.specs.declared.RollAnswer.TheVariants.{Listed, Refused}
 use Rattle.roll_rules.specs.declared.RollRefusal.{RollRefusal}
 use Rattle.roll_rules.specs.declared.RollRefusal.TheVariants.{MoreEntries}
 use Rattle.roll_rules.specs.declared.Sums.{Sums}
@@ -30,17 +29,17 @@ pub reads_many : {bytes : List ℕ} {s : Sums} (r : ReadsAs bytes s) → s.entri
 reads_many r = ap (λ (x : Sums). x.entries) r.comes ∙ length-reverse r.es
 
 module _ (bytes : List ℕ) {x : RollAnswer} (told : x ≡ judged_as (judged edition_1 bytes)) where
-  pub judged-refused : {r : RollRefusal} → x ≡ Refused r → judged edition_1 bytes ≡ REFUSED r
+  pub judged-refused : {r : RollRefusal} → x ≡ Err r → judged edition_1 bytes ≡ REFUSED r
   judged-refused {r} e = go (judged edition_1 bytes) refl (sym told ∙ e)
     where
-      go : (y : Judged) → judged edition_1 bytes ≡ y → judged_as y ≡ Refused r → judged edition_1 bytes ≡ REFUSED r
+      go : (y : Judged) → judged edition_1 bytes ≡ y → judged_as y ≡ Err r → judged edition_1 bytes ≡ REFUSED r
       go (ENTRIES es end) h g = never cc
       go (REFUSED q) h g = h ∙ ap REFUSED (let same : q ≡ r = cc in same)
 
-  pub judged_reads : {s : Sums} → x ≡ Listed s → ReadsAs bytes s
+  pub judged_reads : {s : Sums} → x ≡ Ok s → ReadsAs bytes s
   judged_reads {s} e = go (judged edition_1 bytes) refl (sym told ∙ e)
     where
-      go : (y : Judged) → judged edition_1 bytes ≡ y → judged_as y ≡ Listed s → ReadsAs bytes s
+      go : (y : Judged) → judged edition_1 bytes ≡ y → judged_as y ≡ Ok s → ReadsAs bytes s
       go (ENTRIES es end) h g =
           let is : sums (reverse es) end ≡ s = cc in
           let ends : end ≡ s.end = ap (λ (z : Sums). z.end) is in
@@ -52,26 +51,26 @@ module _ (bytes list : List ℕ) where
   lists_by : {r : RollAnswer} {list' : List ℕ} → read_roll edition_1 bytes list ≡ record { answer = r; list = list' } → Lists bytes list r list'
   lists_by e = record { answer = sym (ap (λ (x : Read). x.answer) e); places = sym (ap (λ (x : Read). x.list) e) }
 
-  pub lists_refused : {r : RollRefusal} → judged edition_1 bytes ≡ REFUSED r → Lists bytes list (Refused r) list
-  lists_refused e = lists_by (read_refuses edition_1 bytes list e)
+  pub lists_refused : {r : RollRefusal} {a : RollAnswer} → judged edition_1 bytes ≡ REFUSED r → a ≡ Err r → Lists bytes list a list
+  lists_refused e is = subst (λ (x : RollAnswer). Lists bytes list x list) (sym is) (lists_by (read_refuses edition_1 bytes list e))
 
   module _ {s : Sums} (r : ReadsAs bytes s) where
-    pub lists_short : length list < s.entries → Lists bytes list (Refused (MoreEntries s.entries)) list
+    pub lists_short : length list < s.entries → Lists bytes list (Err (MoreEntries s.entries)) list
     lists_short h =
-        subst (λ k. Lists bytes list (Refused (MoreEntries k)) list) (sym (reads_many r)) (lists_by (read_short edition_1 bytes list r.reads (omega (arith, reads_many r))))
+        subst (λ k. Lists bytes list (Err (MoreEntries k)) list) (sym (reads_many r)) (lists_by (read_short edition_1 bytes list r.reads (omega (arith, reads_many r))))
 
     module _ (room : s.entries ≤ length list) where
       pub lists_fillable : 0 < s.end → Fillable bytes s.end list
       lists_fillable more = record { es = r.es; stand = r.before.stand more; room = omega (arith, reads_many r); short = r.before.short }
 
-      lists_as : {list' : List ℕ} → list' ≡ filled r.es list → Lists bytes list (Listed s) list'
+      lists_as : {list' : List ℕ} → list' ≡ filled r.es list → Lists bytes list (Ok s) list'
       lists_as e =
           let it = lists_by (read_fits edition_1 bytes list r.reads (omega (arith, reads_many r))) in
-          record { answer = ap Listed r.comes ∙ it.answer; places = e ∙ it.places }
+          record { answer = ap Ok r.comes ∙ it.answer; places = e ∙ it.places }
 
-      pub lists_filled : {list' : List ℕ} → 0 < s.end → ((es : List Entry) → EntriesStand bytes 1 es s.end → list' ≡ filled es list) → Lists bytes list (Listed s) list'
+      pub lists_filled : {list' : List ℕ} → 0 < s.end → ((es : List Entry) → EntriesStand bytes 1 es s.end → list' ≡ filled es list) → Lists bytes list (Ok s) list'
       lists_filled more h = lists_as (h r.es (r.before.stand more))
 
-      pub lists_empty : s.end ≤ 0 → Lists bytes list (Listed s) list
+      pub lists_empty : s.end ≤ 0 → Lists bytes list (Ok s) list
       unfolding places
       lists_empty h = lists_as (sym (ap (λ fs. filled fs list) (r.before.none_there (omega arith))))

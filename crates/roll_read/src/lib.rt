@@ -2,8 +2,7 @@
 // services are public and ask nothing of their callers.
 #![tactic(auto)]
 
-ghost use Rattle.std.specs.Prelude.{◌≡◌, List, ◌≤◌, length, drop};
-ghost use Rattle.std.proofs.Math.Option.{some};
+ghost use Rattle.std.specs.Prelude.{◌≡◌, Some, List, ◌≤◌, length, drop};
 ghost use Rattle.kinds.specs.Limits.{standard};
 ghost use Rattle.roll_format.specs.Format.{Entry, entry, listing, longest};
 ghost use Rattle.roll_rules.specs.EntriesBefore.{Behind, HasEntriesBefore};
@@ -14,46 +13,44 @@ ghost use Rattle.roll_read.specs.Judging.{Fillable, entry_judged, filled, judged
 
 use roll_entries::{EntryAt, entry_at, next_of};
 use roll_format::{FIRST, LONGEST};
-use roll_rules::{EntryAnswer, RollAnswer, RollRefusal, Sums};
-use roll_weigh::{Weighed, weigh};
+use roll_rules::{Counts, EntryRefusal, FoundEntry, RollRefusal, Sums};
+use roll_weigh::weigh;
 use stored::part;
 
-#[derive(Clone, Copy)]
-pub enum JudgedEntry {
-    Torn,
-    Broken,
-    // Where the next entry would stand, and whether this one counts as a job filed, or done.
-    Fine {
-        next: usize,
-        filed: bool,
-        done: bool,
-    },
+// An entry that obeys the rules: where the next one would stand, and what it adds to the tally.
+#[derive(Clone, Copy, PartialEq, Eq)]
+pub struct JudgedEntry {
+    pub next: usize,
+    pub counts: Counts,
 }
 
-// The entry at a place, behind entries that obey the rules.
-fn judge_entry(roll: &[u8], at: usize) -> JudgedEntry
+// The entry at a place, behind entries that obey the rules: none where it is torn. Whatever is wrong with it, the roll is refused by its
+// place.
+fn judge_entry(roll: &[u8], at: usize) -> Result<Option<JudgedEntry>, RollRefusal>
     requires { HasEntriesBefore roll.now at }
     ensures { Behind roll.now at (λ earlier. result ≡ entry_judged earlier at (entry (drop at roll.now)) roll.now) }
 {
-    match entry_at(roll, at) {
-        EntryAt::Torn => JudgedEntry::Torn,
-        EntryAt::Other { next } => JudgedEntry::Broken,
+    let Some(entry) = entry_at(roll, at) else {
+        return Ok(None);
+    };
+    match entry {
+        EntryAt::Other { .. } => Err(RollRefusal::BadRoll(at as u32)),
         EntryAt::Known {
             kind,
             job,
             text,
             next,
         } => match weigh(roll, at, kind, part(roll, job), part(roll, text)) {
-            Weighed::Faulty(why) => JudgedEntry::Broken,
-            Weighed::Fine { filed, done } => JudgedEntry::Fine { next, filed, done },
+            Err(_) => Err(RollRefusal::BadRoll(at as u32)),
+            Ok(counts) => Ok(Some(JudgedEntry { next, counts })),
         },
     }
 }
 
 // Entry by entry, up to the first that is torn or breaks a rule.
-fn judge_entries(roll: &[u8]) -> RollAnswer
+fn judge_entries(roll: &[u8]) -> Result<Sums, RollRefusal>
     requires { (1 ≤ length roll.now) × (length roll.now ≤ longest) }
-    ensures { result ≡ judged_as (by_rules standard (some (listing 0 1 (drop 1 roll.now)))) }
+    ensures { result ≡ judged_as (by_rules standard (Some (listing 0 1 (drop 1 roll.now)))) }
 {
     let mut sums = Sums {
         entries: 0,
@@ -61,27 +58,22 @@ fn judge_entries(roll: &[u8]) -> RollAnswer
         done: 0,
         end: 1,
     };
-    loop {
-        match judge_entry(roll, sums.end as usize) {
-            JudgedEntry::Torn => return RollAnswer::Listed(sums),
-            JudgedEntry::Broken => return RollAnswer::Refused(RollRefusal::BadRoll(sums.end)),
-            JudgedEntry::Fine { next, filed, done } => {
-                let end = next as u32;
-                sums = sums.with_entry(filed, done, end);
-            }
-        }
+    while let Some(JudgedEntry { next, counts }) = judge_entry(roll, sums.end as usize)? {
+        let end = next as u32;
+        sums = sums.with_entry(counts, end);
     }
+    Ok(sums)
 }
 
 // A roll of no bytes lists nothing. Any first byte other than `FIRST` is refused.
-pub fn judge_roll(roll: &[u8]) -> RollAnswer
+pub fn judge_roll(roll: &[u8]) -> Result<Sums, RollRefusal>
     ensures { result ≡ judged_as (judged edition_1 roll.now) }
 {
     if LONGEST < roll.len() {
-        return RollAnswer::Refused(RollRefusal::TooLong);
+        return Err(RollRefusal::TooLong);
     }
-    if roll.len() == 0 {
-        return RollAnswer::Listed(Sums {
+    if roll.is_empty() {
+        return Ok(Sums {
             entries: 0,
             filed: 0,
             done: 0,
@@ -89,7 +81,7 @@ pub fn judge_roll(roll: &[u8]) -> RollAnswer
         });
     }
     if roll[0] != FIRST {
-        return RollAnswer::Refused(RollRefusal::BadRoll(0));
+        return Err(RollRefusal::BadRoll(0));
     }
     judge_entries(roll)
 }
@@ -110,43 +102,36 @@ fn fill(roll: &[u8], end: usize, list: &mut [u32])
 }
 
 // Reads a roll: the places of its whole entries go to the front of the list.
-pub fn read(roll: &[u8], list: &mut [u32]) -> RollAnswer
+pub fn read(roll: &[u8], list: &mut [u32]) -> Result<Sums, RollRefusal>
     ensures { Lists roll.now list.old result list.new }
 {
-    match judge_roll(roll) {
-        RollAnswer::Refused(refusal) => RollAnswer::Refused(refusal),
-        RollAnswer::Listed(sums) => {
-            if list.len() < sums.entries as usize {
-                return RollAnswer::Refused(RollRefusal::MoreEntries(sums.entries));
-            }
-            if 0 < sums.end {
-                fill(roll, sums.end as usize, list);
-            }
-            RollAnswer::Listed(sums)
-        }
+    let sums = judge_roll(roll)?;
+    if list.len() < sums.entries as usize {
+        return Err(RollRefusal::MoreEntries(sums.entries));
     }
+    if 0 < sums.end {
+        fill(roll, sums.end as usize, list);
+    }
+    Ok(sums)
 }
 
 // Tells one entry by its own bytes; whether the roll reads is not asked.
-pub fn entry(roll: &[u8], at: usize) -> EntryAnswer
+pub fn entry(roll: &[u8], at: usize) -> Result<FoundEntry, EntryRefusal>
     ensures { result ≡ one_entry roll.now at }
 {
     if LONGEST < roll.len() {
-        return EntryAnswer::TooLong;
+        return Err(EntryRefusal::TooLong);
     }
-    match entry_at(roll, at) {
-        EntryAt::Torn => EntryAnswer::NoEntry,
-        EntryAt::Other { next } => EntryAnswer::NoEntry,
-        EntryAt::Known {
-            kind,
-            job,
-            text,
-            next,
-        } => EntryAnswer::Found {
+    let Some(entry) = entry_at(roll, at) else {
+        return Err(EntryRefusal::NoEntry);
+    };
+    match entry {
+        EntryAt::Other { .. } => Err(EntryRefusal::NoEntry),
+        EntryAt::Known { job, text, .. } => Ok(FoundEntry {
             job: job.at as u32,
             job_bytes: job.len as u32,
             text: text.at as u32,
             text_bytes: text.len as u32,
-        },
+        }),
     }
 }

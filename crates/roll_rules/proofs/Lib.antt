@@ -2,6 +2,7 @@ pub mod Adding
 pub mod Exactly
 pub mod Growing
 pub mod Reading
+pub mod Refusing
 pub mod Rules
 pub mod Sound
 pub mod Texts

@@ -1,60 +1,33 @@
--- Job numbers, digit by digit.
-use Prim.Native.Nat.{ℕ, suc, ◌+◌, ◌≤◌, ◌<◌}
+-- Job numbers: too short or too long, or told by their digits.
+use Prim.Native.Nat.{ℕ, ◌≤◌, ◌<◌}
 use mathlib.Core.Path.{◌≡◌, refl, ap, ap₂, sym, ◌∙◌}
-use mathlib.Core.Logic.{◌≢◌}
-use mathlib.Core.Bool.{true, false, ◌&&◌, and-false}
-use mathlib.Core.List.{List}
+use mathlib.Core.Logic.{◌≢◌, ◌⊎◌, inl, inr}
+use mathlib.Core.Bool.{Bool, true, false, ◌&&◌, and-false}
+use mathlib.Core.List.{List, [], ◌∷◌}
+use borrow.Author.Tests.{eqb-false, eqb-true, le-leb, le-ltb, lt-leb, lt-ltb}
 use native.Mathlib.Omega.{arith}
-use borrow.Author.Tests.{le-leb, le-ltb, lt-leb, lt-ltb}
-use lib.Dec.{leb}
-use lib.ListN.{length, drop, get_or, drop_of_length-le}
-use lib.Seq.{drop-cons}
+use lib.Dec.{eqb, leb, ltb}
+use lib.ListN.{length}
+use Rattle.std.specs.List.{list_all}
+use Rattle.std.specs.Char.{is_ascii_digit}
 use Rattle.roll_rules.specs.Rules.{digits, is_job, job_limit}
 
-pub record DigitsSoFar (job : List ℕ) (at : ℕ) : Type 0 where
-  pub within : at ≤ length job
-  pub same : digits job ≡ digits (drop at job)
+all-digits : (job : List ℕ) → list_all is_ascii_digit job ≡ digits job
+unfolding digits
+all-digits [] = refl
+all-digits (b ∷ bs) = ap (is_ascii_digit b &&◌) (all-digits bs)
 
-pub digits-first : {job : List ℕ} → DigitsSoFar job 0
-digits-first = record { within = omega arith; same = refl }
-
-module _ {job : List ℕ} {at : ℕ} (d : DigitsSoFar job at) where
-  pub digits_end : length job ≤ at → true ≡ digits job
-  unfolding digits
-  digits_end h = sym (d.same ∙ ap digits (drop_of_length-le job h))
-
-  module _ (more : at < length job) where
-    abbrev b : ℕ
-    b = get_or job at 0
-
-    one : digits job ≡ ((leb 48 b && leb b 57) && digits (drop (at + 1) job))
-    unfolding digits
-    one =
-        let behind : suc at ≡ at + 1 = omega arith in
-        d.same ∙ ap digits (drop-cons job at 0 more) ∙ ap (λ k. (leb 48 b && leb b 57) && digits (drop k job)) behind
-
-    pub digits_low : b < 48 → false ≡ digits job
-    digits_low h = sym (one ∙ ap (λ t. (t && leb b 57) && digits (drop (at + 1) job)) (lt-leb 48 b h))
-
-    pub digits_high : 57 < b → false ≡ digits job
-    digits_high h = sym (one ∙ ap (λ t. (leb 48 b && t) && digits (drop (at + 1) job)) (lt-leb b 57 h) ∙ ap (◌&& digits (drop (at + 1) job)) (and-false (leb 48 b)))
-
-    pub digits_on : 48 ≤ b → b ≤ 57 → DigitsSoFar job (at + 1)
-    digits_on low high =
-        record {
-          within = omega arith;
-          same = one ∙ ap₂ (λ s t. (s && t) && digits (drop (at + 1) job)) (le-leb 48 b low) (le-leb b 57 high);
-        }
-
-module _ (job : List ℕ) where
-  pub job_empty : length job ≡ 0 → false ≡ is_job job
+-- by what was asked of it: whether it is empty, whether it is too long, and whether its bytes are digits
+module _ (job : List ℕ) {empty : Bool} (told : empty ≡ eqb (length job) 0) where
+  pub job_size : (empty ≡ true) ⊎ ((empty ≡ false) × (job_limit < length job)) → false ≡ is_job job
   unfolding is_job
-  job_empty e = sym (ap (λ t. (t && leb (length job) job_limit) && digits job) (le-ltb 0 (length job) (omega arith)))
+  job_size (inl e) =
+      let none : length job ≡ 0 = eqb-true (length job) 0 (sym told ∙ e) in
+      sym (ap (λ t. (t && leb (length job) job_limit) && digits job) (le-ltb 0 (length job) (omega (arith, none))))
+  job_size (inr (some, long)) = sym (ap (λ t. (ltb 0 (length job) && t) && digits job) (lt-leb (length job) job_limit long) ∙ ap (◌&& digits job) (and-false (ltb 0 (length job))))
 
-  pub job_long : length job ≢ 0 → job_limit < length job → false ≡ is_job job
+  pub job-digits : empty ≡ false → length job ≤ job_limit → list_all is_ascii_digit job ≡ is_job job
   unfolding is_job
-  job_long h l = sym (ap₂ (λ s t. (s && t) && digits job) (lt-ltb 0 (length job) (omega arith)) (lt-leb (length job) job_limit l))
-
-  pub job-digits : length job ≢ 0 → length job ≤ job_limit → digits job ≡ is_job job
-  unfolding is_job
-  job-digits h l = sym (ap₂ (λ s t. (s && t) && digits job) (lt-ltb 0 (length job) (omega arith)) (le-leb (length job) job_limit l))
+  job-digits e few =
+      let some : length job ≢ 0 = eqb-false (length job) 0 (sym told ∙ e) in
+      all-digits job ∙ sym (ap₂ (λ s t. (s && t) && digits job) (lt-ltb 0 (length job) (omega (arith, some))) (le-leb (length job) job_limit few))

@@ -5,6 +5,7 @@ use mathlib.Core.Logic.{◌≢◌}
 use mathlib.Core.List.{List, [], ◌∷◌, ◌++◌, reverse, reverse-append}
 use native.Mathlib.Omega.{arith}
 use lib.ListN.{length}
+use Rattle.std.specs.Prelude.{Option}
 use Rattle.roll_entries.specs.declared.EntryAt.{EntryAt}
 use Rattle.roll_entries.specs.Entries.{EntryWithin, entry_at, next_told, says_told}
 use Rattle.roll_entries.proofs.Parts.{Tells, entry_tells}
@@ -48,15 +49,15 @@ module _ {roll job : List ℕ} {upto at : ℕ} {found : StandingAt} (l : LookedB
     tells : Tells roll at here.first.parts here.next
     tells = entry_tells roll at here.next here.high here.first.parts here.whole
 
-    pub looked_within : (x : EntryAt) → x ≡ entry_at roll at → EntryWithin roll x
+    pub looked_within : (x : Option EntryAt) → x ≡ entry_at roll at → EntryWithin roll x
     looked_within x is = subst (EntryWithin roll) (sym is) tells.within
 
     pub looked_there : at ≤ length roll
     looked_there = omega (arith, here.low, here.high)
 
-    module _ (x : EntryAt) (next : ℕ) (is : x ≡ entry_at roll at) (there : next ≡ next_told x upto) where
+    module _ (x : Option EntryAt) (next : ℕ) (is : x ≡ entry_at roll at) (there : next ≡ next_told x upto) where
       far : next ≡ here.next
-      far = there ∙ ap (λ (y : EntryAt). next_told y upto) is ∙ tells.behind upto
+      far = there ∙ ap (λ (y : Option EntryAt). next_told y upto) is ∙ tells.behind upto
 
       pub looked_less : upto - next < upto - at
       looked_less = omega (arith, far, here.low, stands_within roll here.next upto here.others here.stand)

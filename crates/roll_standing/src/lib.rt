@@ -2,15 +2,16 @@
 #![tactic(auto)]
 
 ghost use Rattle.std.specs.Prelude.{◌≡◌, ◌≤◌, length};
+ghost use Rattle.std.specs.List.{list_all};
+ghost use Rattle.std.specs.Char.{is_ascii_digit};
 ghost use Rattle.kinds.specs.Limits.{standard};
-ghost use Rattle.stored.specs.Same.{same};
 ghost use Rattle.stored.specs.Spans.{SpanWithin, part};
-ghost use Rattle.roll_rules.specs.Rules.{digits, is_job, is_printed, newest, standing};
+ghost use Rattle.roll_rules.specs.Rules.{is_job, is_printed, newest, standing};
 ghost use Rattle.roll_rules.specs.EntriesBefore.{Behind, HasEntriesBefore};
 ghost use Rattle.roll_entries.specs.Entries.{EntryWithin, says_told};
 ghost use Rattle.roll_standing.specs.Looking.{StandingWithin, standing_told};
 
-use read::{ToldAcceptance, acceptance_of};
+use read::acceptance_of;
 use roll_entries::{EntryAt, entry_at, next_of};
 use roll_format::EntryKind;
 use roll_rules::JOB_LIMIT;
@@ -18,29 +19,16 @@ use stored::{Span, part};
 
 // The bytes `0` to `9`, and nothing else.
 fn are_digits(job: &[u8]) -> bool
-    ensures { result ≡ digits job.now }
+    ensures { result ≡ list_all is_ascii_digit job.now }
 {
-    let mut at = 0;
-    while at < job.len() {
-        if job[at] < b'0' {
-            return false;
-        }
-        if b'9' < job[at] {
-            return false;
-        }
-        at += 1;
-    }
-    true
+    job.iter().all(|byte| byte.is_ascii_digit())
 }
 
 // A job number: one digit at least, and not too many.
 pub fn is_job(job: &[u8]) -> bool
     ensures { result ≡ is_job job.now }
 {
-    if job.len() == 0 {
-        return false;
-    }
-    if JOB_LIMIT < job.len() {
+    if job.is_empty() || JOB_LIMIT < job.len() {
         return false;
     }
     are_digits(job)
@@ -51,43 +39,43 @@ pub fn is_printed(text: &[u8]) -> bool
     ensures { result ≡ is_printed standard text.now }
 {
     match acceptance_of(text) {
-        ToldAcceptance::Accepted { cells, length } => length as usize == text.len(),
-        ToldAcceptance::NotRead(why) => false,
+        Ok(size) => size.length as usize == text.len(),
+        Err(_) => false,
     }
 }
 
 // How a job stands: not filed; filed last by the entry at a place, with its text; or done by the entry at a place.
-#[derive(Clone, Copy)]
+#[derive(Clone, Copy, PartialEq, Eq)]
 pub enum StandingAt {
     Unfiled,
     Filed { at: usize, text: Span },
     Done { at: usize },
 }
 
-// Byte for byte, and as many: `7` and `07` are two jobs.
-fn same_job(roll: &[u8], found: Span, job: &[u8]) -> bool
-    requires { SpanWithin roll.now found }
-    ensures { result ≡ same (part roll.now found) job.now }
-{
-    check::same(part(roll, found), job)
-}
-
-// How the job stands behind one entry more.
-fn newest(roll: &[u8], at: usize, entry: EntryAt, job: &[u8], older: StandingAt) -> StandingAt
+// How the job stands behind one entry more. Job numbers are the same byte for byte: `7` and `07` are two jobs.
+fn newest(
+    roll: &[u8],
+    at: usize,
+    entry: Option<EntryAt>,
+    job: &[u8],
+    older: StandingAt,
+) -> StandingAt
     requires { EntryWithin roll.now entry × StandingWithin roll.now older × (at ≤ length roll.now) }
     ensures within { StandingWithin roll.now result }
     ensures told { standing_told roll.now result ≡ newest job.now at (says_told roll.now entry) (standing_told roll.now older) }
 {
+    let Some(entry) = entry else {
+        return older;
+    };
     match entry {
-        EntryAt::Torn => older,
-        EntryAt::Other { next } => older,
+        EntryAt::Other { .. } => older,
         EntryAt::Known {
             kind,
             job: found,
             text,
-            next,
+            ..
         } => {
-            if !same_job(roll, found, job) {
+            if part(roll, found) != job {
                 return older;
             }
             match kind {

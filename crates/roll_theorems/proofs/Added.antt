@@ -3,7 +3,7 @@ use Prim.Native.Nat.{ℕ, ◌+◌, ◌≤◌, ◌<◌, min}
 use mathlib.Core.Path.{◌≡◌, refl, ap, ap₂, sym, subst, ◌∙◌}
 use mathlib.Core.Logic.{◌⊎◌, inl, inr}
 use mathlib.Core.Bool.{Bool, true, false, cond}
-use Rattle.std.specs.Prelude.{Option, None as none, Some as some}
+use Rattle.std.specs.Prelude.{Option, None, Some}
 use mathlib.Core.List.{List, [], ◌∷◌, ◌++◌, append-nil, reverse, reverse-append}
 use native.Mathlib.Omega.{arith}
 use native.Mathlib.Decide.{dec_lt}
@@ -13,11 +13,10 @@ use lib.ListN.{length, take}
 use lib.Seq.{take-take}
 use Rattle.kinds.specs.Limits.{standard}
 use Rattle.kinds.specs.Written.{put_at}
-use Rattle.roll_rules.specs.Answers.{Added, Judged, ENTRIES, REFUSED, add, add_to, edition_1, in_use, judged, listed_as, new_bytes, new_entry, not_added, roll_numbers, roll_refusal_number}
+use Rattle.roll_rules.specs.Answers.{Added, ENTRIES, Judged, REFUSED, RollAnswer, add, add_to, edition_1, in_use, judged, listed_as, new_bytes, new_entry, not_added, roll_numbers, roll_refusal_number}
 use Rattle.roll_format.specs.Format.{Entry, longest, says}
 use Rattle.roll_rules.proofs.Adding.{entry_made, fault-first, room_last, roll-first}
 use Rattle.roll_rules.specs.Rules.{counts_done, counts_filed, fault}
-use Rattle.roll_rules.specs.declared.RollAnswer.{RollAnswer}
 use Rattle.roll_rules.specs.declared.RollRefusal.{RollRefusal}
 use Rattle.roll_rules.specs.declared.RollRefusal.TheVariants.{AlreadyDone, BadJob, BadRoll, BadText, MoreEntries, NoRoom, TooLong, Unfiled, Unfinished}
 use Rattle.demands.specs.Terms.{READ}
@@ -43,7 +42,7 @@ pub record Made (buffer : List ℕ) (used : ℕ) (parts : List (List ℕ)) (a : 
   pub end : ℕ
   pub read : RollReads (take used buffer) es end
   pub short : length buffer ≤ longest
-  pub fine : fault standard (reverse es) (new_entry end parts) ≡ none
+  pub fine : fault standard (reverse es) (new_entry end parts) ≡ None
   pub room : end + length (new_bytes edition_1 end parts) ≤ length buffer
   pub answer : a.answer ≡ listed_as (new_entry end parts ∷ reverse es) (end + length (new_bytes edition_1 end parts))
   pub bytes : a.buffer ≡ put_at buffer end (new_bytes edition_1 end parts)
@@ -63,7 +62,7 @@ module _ (buffer : List ℕ) (used : ℕ) (parts : List (List ℕ)) where
       Either : Judged → Type 0
       Either j = Made buffer used parts (add_to edition_1 buffer j parts) ⊎ NotMade buffer (add_to edition_1 buffer j parts)
 
-      by_room : (es : List Entry) (end : ℕ) → RollReads (take used buffer) es end → length buffer ≤ longest → fault standard (reverse es) (new_entry end parts) ≡ none
+      by_room : (es : List Entry) (end : ℕ) → RollReads (take used buffer) es end → length buffer ≤ longest → fault standard (reverse es) (new_entry end parts) ≡ None
           → Dec (length buffer < end + length (new_bytes edition_1 end parts)) → Either (ENTRIES es end)
       by_room es end reads short fine (no h) =
           inl (rw (entry_made edition_1 buffer parts es end fine (omega arith)) record {
@@ -82,8 +81,8 @@ module _ (buffer : List ℕ) (used : ℕ) (parts : List (List ℕ)) where
           inr (record { why = NoRoom (min (end + length (new_bytes edition_1 end parts)) longest); refused = room_last edition_1 buffer parts es end fine h })
 
       by_fault : (es : List Entry) (end : ℕ) → RollReads (take used buffer) es end → length buffer ≤ longest → (x : Option RollRefusal) → fault standard (reverse es) (new_entry end parts) ≡ x → Either (ENTRIES es end)
-      by_fault es end reads short none e = by_room es end reads short e (dec_lt (length buffer) (end + length (new_bytes edition_1 end parts)))
-      by_fault es end reads short (some q) e = inr (record { why = q; refused = fault-first edition_1 buffer parts es end e })
+      by_fault es end reads short None e = by_room es end reads short e (dec_lt (length buffer) (end + length (new_bytes edition_1 end parts)))
+      by_fault es end reads short (Some q) e = inr (record { why = q; refused = fault-first edition_1 buffer parts es end e })
 
       by_roll : length buffer ≤ longest → (j : Judged) → judged edition_1 (take used buffer) ≡ j → Either j
       by_roll short (REFUSED q) e = inr (record { why = q; refused = roll-first edition_1 buffer parts q })

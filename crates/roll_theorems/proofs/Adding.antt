@@ -2,7 +2,7 @@
 use Prim.Native.Nat.{ℕ, ◌+◌, ◌≤◌}
 use mathlib.Core.Path.{◌≡◌, refl, ap, ap₂, sym, subst, ◌∙◌}
 use mathlib.Core.Logic.{◌⊎◌, inl, inr, ◌≢◌}
-use Rattle.std.specs.Prelude.{None as none}
+use Rattle.std.specs.Prelude.{None}
 use mathlib.Core.List.{List, [], ◌∷◌, ◌++◌, append_assoc, append-nil, reverse}
 use native.Mathlib.Omega.{arith}
 use borrow.Author.Tests.{ne_eqb}
@@ -38,7 +38,7 @@ stands_longer xs ys upto (e ∷ es) from (p, (next, whole, low, high, more)) =
     ∙ ap (FRONT e.parts) (sym (drop-append-le next xs ys high)) in
     (p, (next, same, low, omega (arith, length-append xs ys), stands_longer xs ys upto es next more))
 
-refl_broken : broken standard [] [] ≡ none
+refl_broken : broken standard [] [] ≡ None
 unfolding broken
 refl_broken = refl
 
@@ -62,8 +62,8 @@ module _ (parts : List (List ℕ)) (few : length parts ≤ longest) (fits : Stor
       let f = found_entry (entry_bytes parts ++ []) (entry_back parts [] few fits) in
       omega (arith, ap length f.is, length-append (entry_bytes parts) [], length-append f.own [], f.long)
 
-  behind_front : (front : List ℕ) (es : List Entry) (end : ℕ) → front ≡ 1 ∷ drop 1 front → length front ≡ end → EntriesStand front 1 es end → broken standard [] es ≡ none
-      → fault standard (reverse es) (record { place = end; parts = parts }) ≡ none → length (front ++ entry_bytes parts) ≤ longest
+  behind_front : (front : List ℕ) (es : List Entry) (end : ℕ) → front ≡ 1 ∷ drop 1 front → length front ≡ end → EntriesStand front 1 es end → broken standard [] es ≡ None
+      → fault standard (reverse es) (record { place = end; parts = parts }) ≡ None → length (front ++ entry_bytes parts) ≤ longest
       → RollReads (front ++ entry_bytes parts) (es ++ record { place = end; parts = parts } ∷ []) (length (front ++ entry_bytes parts))
   behind_front front es end first ends stand obeyed good short =
       let there : drop end (front ++ entry_bytes parts) ≡ entry_bytes parts = ap (λ k. drop k (front ++ entry_bytes parts)) (sym ends) ∙ drop-append_seam front (entry_bytes parts) in
@@ -84,7 +84,7 @@ module _ (parts : List (List ℕ)) (few : length parts ≤ longest) (fits : Stor
 
   -- the roll in use of a buffer, and the buffer with the new entry at its end
   module _ (buffer : List ℕ) (used : ℕ) {es : List Entry} {end : ℕ} (reads : RollReads (take used buffer) es end) (short : length buffer ≤ longest)
-      (good : fault standard (reverse es) (new_entry end parts) ≡ none) (room : end + length (new_bytes edition_1 end parts) ≤ length buffer) where
+      (good : fault standard (reverse es) (new_entry end parts) ≡ None) (room : end + length (new_bytes edition_1 end parts) ≤ length buffer) where
     pub put_reads : RollReads (take (end + length (new_bytes edition_1 end parts)) (put_at buffer end (new_bytes edition_1 end parts))) (es ++ new_entry end parts ∷ [])
         (end + length (new_bytes edition_1 end parts))
     put_reads = go (reads_sound (take used buffer) reads)

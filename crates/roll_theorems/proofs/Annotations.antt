@@ -3,7 +3,7 @@
 use Prim.Native.Nat.{ℕ, ◌≤◌}
 use mathlib.Core.Path.{◌≡◌, refl, ap, sym, subst, ◌∙◌}
 use mathlib.Core.Bool.{Bool, true, false}
-use Rattle.std.specs.Prelude.{None as none, Some as some}
+use Rattle.std.specs.Prelude.{None, Some}
 use mathlib.Core.List.{List, [], ◌∷◌, ◌++◌, reverse}
 use borrow.Author.Tests.{le-ltb}
 use lib.ListN.{length, take}
@@ -11,10 +11,9 @@ use Rattle.kinds.specs.Limits.{token_limit}
 use Rattle.plan.specs.Reading.{HoldsAnnotation}
 use Rattle.kinds.specs.Limits.{standard}
 use Rattle.plan.proofs.Annotations.{print_no_annotation}
-use Rattle.roll_rules.specs.Answers.{Added, ENTRIES, REFUSED, Read, add, add_to, by_rules, edition_1, file, in_use, judged, new_entry, roll_numbers, unbroken}
+use Rattle.roll_rules.specs.Answers.{Added, ENTRIES, REFUSED, Read, RollAnswer, add, add_to, by_rules, edition_1, file, in_use, judged, new_entry, roll_numbers, unbroken}
 use Rattle.roll_format.specs.Format.{Entry, FILED, Listing, longest, roll, says}
 use Rattle.roll_rules.specs.Rules.{broken, fault, fault_of, is_job, is_printed}
-use Rattle.roll_rules.specs.declared.RollAnswer.{RollAnswer}
 use Rattle.roll_rules.specs.declared.RollRefusal.{RollRefusal}
 use Rattle.roll_rules.specs.declared.RollRefusal.TheVariants.{BadJob, BadRoll, BadText}
 use Rattle.roll_rules.specs.declared.Tally.{Tally}
@@ -49,29 +48,29 @@ module _ (text : List ℕ) (annotated : HoldsAnnotation text) where
       → Adds (file edition_1 buffer used job text) tally a buffer' tally' → (roll_numbers a).number ≡ BADTEXT
   unfolding file add in_use fault fault_of says
   annotated_bad_text buffer used job {es} {end} short reads its_job call =
-      let wrong : fault standard (reverse es) (new_entry end (job ∷ text ∷ [])) ≡ some BadText = rw (its_job, not-printed) in
+      let wrong : fault standard (reverse es) (new_entry end (job ∷ text ∷ [])) ≡ Some BadText = rw (its_job, not-printed) in
       let used_is : in_use edition_1 buffer used ≡ ENTRIES es end = rw (le-ltb longest (length buffer) short) reads in
       let added = ap (λ j. add_to edition_1 buffer j (job ∷ text ∷ [])) used_is ∙ fault-first edition_1 buffer (job ∷ text ∷ []) es end wrong in
       ap (λ (x : RollAnswer). (roll_numbers x).number) (call.answer ∙ ap (λ (x : Added). x.answer) added)
 
   -- and a whole entry with it breaks the rules, whatever stands before it
-  breaks : (earlier : List Entry) (e : Entry) (job : List ℕ) → says e.parts ≡ FILED job text → (why : RollRefusal) × (fault standard earlier e ≡ some why)
+  breaks : (earlier : List Entry) (e : Entry) (job : List ℕ) → says e.parts ≡ FILED job text → (why : RollRefusal) × (fault standard earlier e ≡ Some why)
   unfolding fault fault_of
   breaks earlier e job is = go (is_job job) refl
     where
-      go : (j : Bool) → is_job job ≡ j → (why : RollRefusal) × (fault_of standard earlier e.place (says e.parts) ≡ some why)
+      go : (j : Bool) → is_job job ≡ j → (why : RollRefusal) × (fault_of standard earlier e.place (says e.parts) ≡ Some why)
       go true h = (BadText, rw (is, h, not-printed) refl)
       go false h = (BadJob, rw (is, h) refl)
 
   -- so the roll is BADROLL, at that entry's place where no earlier one breaks them
   -- a theorem of annotations
-  pub annotated_bad_roll : (bytes : List ℕ) (l : Listing) (front after : List Entry) (e : Entry) (job : List ℕ) → length bytes ≤ longest → roll 1 bytes ≡ some l
-      → l.entries ≡ front ++ e ∷ after → broken standard [] front ≡ none → says e.parts ≡ FILED job text
+  pub annotated_bad_roll : (bytes : List ℕ) (l : Listing) (front after : List Entry) (e : Entry) (job : List ℕ) → length bytes ≤ longest → roll 1 bytes ≡ Some l
+      → l.entries ≡ front ++ e ∷ after → broken standard [] front ≡ None → says e.parts ≡ FILED job text
       → {list : List ℕ} {r : RollAnswer} {list' : List ℕ} → Lists bytes list r list' → ((roll_numbers r).number ≡ BADROLL) × ((roll_numbers r).place ≡ e.place)
   unfolding judged by_rules unbroken
   annotated_bad_roll bytes l front after e job short whole split good is {list} call =
       let (why, wrong) = breaks (reverse front) e job is in
-      let first : broken standard [] l.entries ≡ some e.place = ap (broken standard []) split ∙ broken-at standard front good e wrong after in
+      let first : broken standard [] l.entries ≡ Some e.place = ap (broken standard []) split ∙ broken-at standard front good e wrong after in
       let refused : judged edition_1 bytes ≡ REFUSED (BadRoll e.place) = rw (le-ltb longest (length bytes) short, whole, first) in
       let told = call.answer ∙ ap (λ (x : Read). x.answer) (read_refuses edition_1 bytes list refused) in
       (ap (λ (x : RollAnswer). (roll_numbers x).number) told, ap (λ (x : RollAnswer). (roll_numbers x).place) told)

@@ -3,7 +3,7 @@ use Prim.Native.Nat.{ℕ, zero, suc, ◌+◌, ◌-◌, ◌≤◌, ◌<◌, min}
 use mathlib.Core.Path.{◌≡◌, refl, ap, ap₂, sym, subst, ◌∙◌}
 use mathlib.Core.Logic.{◌⊎◌, inl, inr}
 use mathlib.Core.Bool.{Bool, true, false, cond}
-use Rattle.std.specs.Prelude.{None as none}
+use Rattle.std.specs.Prelude.{None}
 use mathlib.Core.List.{List, [], ◌∷◌, ◌++◌, append_assoc}
 use native.Mathlib.Omega.{arith}
 use native.Mathlib.Decide.{dec_lt}
@@ -140,7 +140,7 @@ cut_reads roll {es} {end} r n = go n (reads_sound roll r)
           stand = it.stand;
           within = it.within;
           torn = it.torn;
-          obeyed = broken_front standard [] (whole_in (suc k) es) it.lost (subst (λ es. broken standard [] es ≡ none) it.split s.obeyed);
+          obeyed = broken_front standard [] (whole_in (suc k) es) it.lost (subst (λ es. broken standard [] es ≡ None) it.split s.obeyed);
         })
 
 -- all are whole in bytes that reach their end

@@ -2,7 +2,7 @@
 use Prim.Native.Nat.{ℕ}
 use mathlib.Core.Path.{◌≡◌, refl, ap, ap₂, sym, ◌∙◌}
 use mathlib.Core.Bool.{Bool, true, false, cond}
-use Rattle.std.specs.Prelude.{Option, None as none, Some as some}
+use Rattle.std.specs.Prelude.{Option, None, Some}
 use mathlib.Core.List.{List, [], ◌∷◌, ◌++◌, append_assoc, reverse, reverse-append, reverse-cons, reverse-reverse, reverse_aux}
 use native.Mathlib.Omega.{arith}
 use Rattle.kinds.specs.Limits.{cell_limit}
@@ -60,7 +60,7 @@ filing-of job (e ∷ earlier) {place} {text} h = go (says e.parts) refl h (filin
     go NEITHER is h older = skip (ap (of_job job) is) (older h)
 
 -- nothing of a job stands behind its DONE
-silent_after : (job : List ℕ) (earlier after : List Entry) {place : ℕ} → standing job earlier ≡ DONE_AT place → broken standard earlier after ≡ none → NoneOf job after
+silent_after : (job : List ℕ) (earlier after : List Entry) {place : ℕ} → standing job earlier ≡ DONE_AT place → broken standard earlier after ≡ None → NoneOf job after
 unfolding standing of_job newest after_done unfinished
 silent_after job earlier [] stands h = tt
 silent_after job earlier (e ∷ after) {place} stands h =
@@ -68,13 +68,13 @@ silent_after job earlier (e ∷ after) {place} stands h =
     let differs = other (says e.parts) (said_fine standard earlier e fine refl) in
     (differs, silent_after job (e ∷ earlier) after (still (says e.parts) differs) more)
   where
-    not_same : (j : List ℕ) (wrong : JobStanding → Option RollRefusal) → wrong (DONE_AT place) ≡ some (AlreadyDone place) → wrong (standing j earlier) ≡ none
+    not_same : (j : List ℕ) (wrong : JobStanding → Option RollRefusal) → wrong (DONE_AT place) ≡ Some (AlreadyDone place) → wrong (standing j earlier) ≡ None
         → (b : Bool) → same j job ≡ b → b ≡ false
     not_same j wrong after fine false so = refl
     not_same j wrong after fine true so =
-        let clash : some (AlreadyDone place) ≡ none = sym after ∙ ap wrong (sym stands ∙ ap (λ k. standing k earlier) (sym (same_equal j job so))) ∙ fine in never cc
+        let clash : Some (AlreadyDone place) ≡ None = sym after ∙ ap wrong (sym stands ∙ ap (λ k. standing k earlier) (sym (same_equal j job so))) ∙ fine in never cc
 
-    other : (s : EntrySays) → fault_of standard earlier e.place s ≡ none → of_job job s ≡ false
+    other : (s : EntrySays) → fault_of standard earlier e.place s ≡ None → of_job job s ≡ false
     other (FILED j t) fine = not_same j after_done refl (filed_fine standard earlier e.place j t fine).2 (same j job) refl
     other (DONE j) fine = not_same j (unfinished standard) refl (done_fine standard earlier e.place j fine).1 (same j job) refl
     other NEITHER fine = refl

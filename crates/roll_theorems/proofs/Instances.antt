@@ -5,14 +5,13 @@ use mathlib.Core.Path.{◌≡◌, refl, ap, ap₂}
 use mathlib.Core.List.{List, [], ◌∷◌, ◌++◌}
 use native.Mathlib.Omega.{arith}
 use lib.ListN.{take, replicate}
+use Rattle.std.specs.Prelude.{Ok, Err}
 use Rattle.numbers.specs.Rows.{bytes}
 use Rattle.roll_format.specs.Format.{Entry, says}
 use Rattle.roll_rules.proofs.Worked.{rolling}
 use Rattle.roll_rules.specs.Rules.{counts_done, counts_filed, done, filed, is_new, newest, standing}
 use Rattle.stored.specs.Same.{same}
-use Rattle.roll_rules.specs.Answers.{close_job, edition_1, file, roll_numbers}
-use Rattle.roll_rules.specs.declared.RollAnswer.{RollAnswer}
-use Rattle.roll_rules.specs.declared.RollAnswer.TheVariants.{Listed, Refused}
+use Rattle.roll_rules.specs.Answers.{RollAnswer, close_job, edition_1, file, roll_numbers}
 use Rattle.roll_rules.specs.declared.RollRefusal.TheVariants.{BadRoll, BadText, Unfinished}
 use Rattle.roll_rules.specs.declared.Tally.{Tally}
 use Rattle.roll_read.specs.Calls.{Lists}
@@ -72,15 +71,15 @@ abbrev tally : (filed done : ℕ) → Tally
 tally f d = record { filed = f; done = d }
 
 abbrev listed : (entries filed done end : ℕ) → RollAnswer
-listed n f d e = Listed (record { entries = n; filed = f; done = d; end = e })
+listed n f d e = Ok (record { entries = n; filed = f; done = d; end = e })
 
 pub calls : Adds (file edition_1 buffer 0 job ended) (tally 0 0) (listed 1 1 0 24) one (tally 1 0)
     × Adds (close_job edition_1 one 24 job) (tally 1 0) (listed 2 1 1 33) two (tally 1 1)
     × Adds (file edition_1 two 33 other_job p7) (tally 1 1) (listed 3 2 1 60) three (tally 2 1)
-    × Adds (close_job edition_1 three 60 other_job) (tally 2 1) (Refused (Unfinished 33)) three (tally 2 1)
-    × Lists (take 60 three) (replicate 4 9) (listed 3 2 1 60) (1 ∷ 24 ∷ 33 ∷ 9 ∷ []) × Lists buffer (replicate 4 9) (Refused (BadRoll 0)) (replicate 4 9)
-    × Adds (file edition_1 one 24 other_job annotated) (tally 1 0) (Refused BadText) one (tally 1 0)
-    × Lists (1 ∷ annotated_filed) (replicate 4 9) (Refused (BadRoll 1)) (replicate 4 9)
+    × Adds (close_job edition_1 three 60 other_job) (tally 2 1) (Err (Unfinished 33)) three (tally 2 1)
+    × Lists (take 60 three) (replicate 4 9) (listed 3 2 1 60) (1 ∷ 24 ∷ 33 ∷ 9 ∷ []) × Lists buffer (replicate 4 9) (Err (BadRoll 0)) (replicate 4 9)
+    × Adds (file edition_1 one 24 other_job annotated) (tally 1 0) (Err BadText) one (tally 1 0)
+    × Lists (1 ∷ annotated_filed) (replicate 4 9) (Err (BadRoll 1)) (replicate 4 9)
 unfolding rolling bytes
 calls = (
   record { answer = refl; bytes = refl; filed = refl; done = refl },
@@ -119,7 +118,7 @@ unfolding rolling whole_in torn_from entry_end sections_size bytes
 a_roll = (refl, cut_reads (take 60 three) {es = filing ∷ closing ∷ later ∷ []} {end = 60} refl 59, refl)
 
 -- `ListedAs` and `Unlisted`
-pub a_listing : ListedAs (filing ∷ closing ∷ later ∷ []) 60 (replicate 4 9) (listed 3 2 1 60) (1 ∷ 24 ∷ 33 ∷ 9 ∷ []) × Unlisted (replicate 4 9) (Refused (BadRoll 0)) (replicate 4 9)
+pub a_listing : ListedAs (filing ∷ closing ∷ later ∷ []) 60 (replicate 4 9) (listed 3 2 1 60) (1 ∷ 24 ∷ 33 ∷ 9 ∷ []) × Unlisted (replicate 4 9) (Err (BadRoll 0)) (replicate 4 9)
 a_listing = (reads_listed calls.4 (filing ∷ closing ∷ later ∷ []) 60 a_roll.0 (omega arith), read-refused calls.5 (λ e. omega arith))
 
 -- `HasText`: the DONE stands behind its text
@@ -131,7 +130,7 @@ a_done_with_text = done_has_text (take 60 three) (filing ∷ []) (later ∷ []) 
 pub entries_added : OneMore buffer 0 (job ∷ ended ∷ []) (listed 1 1 0 24) one × OneMore one 24 (job ∷ []) (listed 2 1 1 33) two
 entries_added = (filed_is_last buffer 0 job ended calls.0 refl, done_is_last one 24 job calls.1 refl)
 
-pub an_entry-refused : Unchanged three (tally 2 1) (Refused (Unfinished 33)) three (tally 2 1)
+pub an_entry-refused : Unchanged three (tally 2 1) (Err (Unfinished 33)) three (tally 2 1)
 an_entry-refused = done_refused three 60 other_job calls.3 (λ e. omega arith)
 
 -- `TallyOf`: no jobs at first; then one filed, and done; then another filed

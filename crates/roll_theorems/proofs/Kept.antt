@@ -6,12 +6,11 @@ use mathlib.Core.List.{List, [], ◌∷◌, ◌++◌, reverse, reverse-append}
 use native.Mathlib.Omega.{arith}
 use lib.ListN.{length, take, length-reverse}
 use Rattle.stored.specs.Counted.{largest}
-use Rattle.roll_rules.specs.Answers.{Added, add, close_job, edition_1, file, grown, new_entry, roll_numbers}
+use Rattle.roll_rules.specs.Answers.{Added, RollAnswer, add, close_job, edition_1, file, grown, new_entry, roll_numbers}
 use Rattle.roll_format.specs.Format.{Entry, parts_of, says}
 use Rattle.roll_rules.specs.Rules.{counts_filed, done, filed}
 use Rattle.roll_format.specs.declared.EntryKind.{EntryKind}
 use Rattle.roll_format.specs.declared.EntryKind.TheVariants.{Filed, Done}
-use Rattle.roll_rules.specs.declared.RollAnswer.{RollAnswer}
 use Rattle.roll_rules.specs.declared.Sums.{Sums}
 use Rattle.roll_rules.specs.declared.Tally.{Tally}
 use Rattle.roll_rules.proofs.Growing.{sums_on}

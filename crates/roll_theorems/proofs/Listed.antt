@@ -5,10 +5,9 @@ use mathlib.Core.Logic.{◌≢◌, ◌⊎◌, inl, inr}
 use mathlib.Core.List.{List}
 use native.Mathlib.Omega.{arith}
 use lib.ListN.{length, take}
-use Rattle.roll_rules.specs.Answers.{Judged, ENTRIES, REFUSED, Read, edition_1, judged, read_roll, roll_numbers}
+use Rattle.std.specs.Prelude.{Err}
+use Rattle.roll_rules.specs.Answers.{ENTRIES, Judged, REFUSED, Read, RollAnswer, edition_1, judged, read_roll, roll_numbers}
 use Rattle.roll_format.specs.Format.{Entry}
-use Rattle.roll_rules.specs.declared.RollAnswer.{RollAnswer}
-use Rattle.roll_rules.specs.declared.RollAnswer.TheVariants.{Refused}
 use Rattle.roll_rules.specs.declared.RollRefusal.{RollRefusal}
 use Rattle.roll_rules.specs.declared.RollRefusal.TheVariants.{MoreEntries}
 use Rattle.roll_read.specs.Calls.{Lists}
@@ -33,7 +32,7 @@ module _ {roll list : List ℕ} {r : RollAnswer} {list' : List ℕ} (call : List
 
   -- a call lists, or refuses and changes nothing
   abbrev ListedOrNot : Type 0
-  ListedOrNot = ((es : List Entry) × (end : ℕ) × RollReads roll es end × (length es ≤ length list)) ⊎ ((q : RollRefusal) × (read_roll edition_1 roll list ≡ record { answer = Refused q; list = list }))
+  ListedOrNot = ((es : List Entry) × (end : ℕ) × RollReads roll es end × (length es ≤ length list)) ⊎ ((q : RollRefusal) × (read_roll edition_1 roll list ≡ record { answer = Err q; list = list }))
 
   listed_or_not : ListedOrNot
   listed_or_not = go (judged edition_1 roll) refl

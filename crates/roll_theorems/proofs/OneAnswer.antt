@@ -3,8 +3,7 @@
 use Prim.Native.Nat.{ℕ}
 use mathlib.Core.Path.{◌≡◌, ap, ap₂, sym, ◌∙◌}
 use mathlib.Core.List.{List}
-use Rattle.roll_rules.specs.Answers.{Added, one_entry, roll_numbers}
-use Rattle.roll_rules.specs.declared.RollAnswer.{RollAnswer}
+use Rattle.roll_rules.specs.Answers.{Added, RollAnswer, one_entry, roll_numbers}
 use Rattle.roll_rules.specs.declared.Tally.{Tally}
 use Rattle.roll_read.specs.Calls.{Lists}
 use Rattle.roll_add.specs.Calls.{Adds}

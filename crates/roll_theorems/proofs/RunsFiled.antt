@@ -3,7 +3,7 @@ use Prim.Native.Nat.{ℕ, ◌+◌, ◌≤◌, ◌<◌}
 use mathlib.Core.Path.{◌≡◌, refl, ap, sym, ◌∙◌}
 use mathlib.Core.Logic.{◌≢◌, ◌↔◌}
 use mathlib.Core.Bool.{Bool, true, false, cond}
-use Rattle.std.specs.Prelude.{None as none, Some as some, Option}
+use Rattle.std.specs.Prelude.{None, Some, Option}
 use mathlib.Core.List.{List, [], ◌∷◌, ◌++◌, reverse, reverse-append}
 use native.Mathlib.Omega.{arith}
 use native.Mathlib.Decide.{dec_lt}
@@ -18,14 +18,13 @@ use Rattle.answers.specs.declared.RunAnswer.{RunAnswer}
 use Rattle.plan.proofs.Plans.{print-relabel}
 use Rattle.rules.proofs.Rewrites.{finished-relabel, finished_when}
 use Rattle.kinds.proofs.Tests.{never, false_is_not_true}
-use Rattle.roll_rules.specs.Answers.{Added, Edition, Judged, ENTRIES, REFUSED, add, add_to, by_rules, close_job, edition_1, file, in_use, judged, new_bytes, new_entry, roll_numbers, roll_refusal_number, unbroken}
+use Rattle.roll_rules.specs.Answers.{Added, ENTRIES, Edition, Judged, REFUSED, RollAnswer, add, add_to, by_rules, close_job, edition_1, file, in_use, judged, new_bytes, new_entry, roll_numbers, roll_refusal_number, unbroken}
 use Rattle.roll_format.specs.Format.{Entry, Listing, longest, roll, says}
 use Rattle.roll_rules.proofs.Adding.{entry_made, fault-first, room_last, roll-first}
 use Rattle.roll_rules.proofs.Rules.{filed-right}
 use Rattle.stored.proofs.Same.{same_self}
 use Rattle.stored.specs.Same.{same}
 use Rattle.roll_rules.specs.Rules.{DONE_AT, FILED_AT, JobStanding, UNFILED, after_done, broken, fault, fault_of, is_finished, is_job, is_printed, newest, standing, unfinished}
-use Rattle.roll_rules.specs.declared.RollAnswer.{RollAnswer}
 use Rattle.roll_rules.specs.declared.RollRefusal.TheVariants.{BadJob, BadText, Unfinished, AlreadyDone, BadRoll, TooLong}
 use Rattle.roll_rules.specs.declared.Tally.{Tally}
 use Rattle.run.specs.Calls.{Runs}
@@ -61,7 +60,7 @@ module _ (buffer : List ℕ) (used : ℕ) (job text : List ℕ) {es : List Entry
   its_job : is_job job ≡ true
   its_job = (filed-right standard job es (reads_before (take used buffer) reads).obeyed last).its_job
 
-  wrong_by : fault standard (reverse es) (new_entry end (job ∷ [])) ≡ cond (is_finished standard text) none (some (Unfinished place))
+  wrong_by : fault standard (reverse es) (new_entry end (job ∷ [])) ≡ cond (is_finished standard text) None (Some (Unfinished place))
   unfolding fault fault_of says unfinished
   wrong_by = rw (its_job, last) refl
 
@@ -74,7 +73,7 @@ module _ (buffer : List ℕ) (used : ℕ) (job text : List ℕ) {es : List Entry
   finished_closes : is_finished standard text ≡ true → (roll_numbers b).number ≢ NOROOM → (roll_numbers b).number ≡ READ
   finished_closes e room = go (dec_lt (length buffer) (end + length (new_bytes edition_1 end (job ∷ []))))
     where
-      fine : fault standard (reverse es) (new_entry end (job ∷ [])) ≡ none
+      fine : fault standard (reverse es) (new_entry end (job ∷ [])) ≡ None
       fine = wrong_by ∙ rw e refl
 
       go : Dec (length buffer < end + length (new_bytes edition_1 end (job ∷ []))) → (roll_numbers b).number ≡ READ
@@ -84,7 +83,7 @@ module _ (buffer : List ℕ) (used : ℕ) (job text : List ℕ) {es : List Entry
 
   unfinished_stays : is_finished standard text ≡ false → ((roll_numbers b).number ≡ UNFINISHED) × ((roll_numbers b).place ≡ place)
   unfinished_stays e =
-      let wrong : fault standard (reverse es) (new_entry end (job ∷ [])) ≡ some (Unfinished place) = wrong_by ∙ rw e refl in
+      let wrong : fault standard (reverse es) (new_entry end (job ∷ [])) ≡ Some (Unfinished place) = wrong_by ∙ rw e refl in
       let so = told (fault-first edition_1 buffer (job ∷ []) es end wrong) in
       (ap (λ (x : RollAnswer). (roll_numbers x).number) so, ap (λ (x : RollAnswer). (roll_numbers x).place) so)
 
@@ -105,23 +104,23 @@ unfolding judged by_rules unbroken
 refused-roll ed bytes {q} e = by_length (ltb longest (length bytes)) e
   where
     by_rule : (l : Listing) (x : Option ℕ) → unbroken x l ≡ REFUSED q → roll_refusal_number q ≢ BADTEXT
-    by_rule l none e n = never cc
-    by_rule l (some p) e n = let is : BadRoll p ≡ q = cc in omega (arith, ap roll_refusal_number is, n)
+    by_rule l None e n = never cc
+    by_rule l (Some p) e n = let is : BadRoll p ≡ q = cc in omega (arith, ap roll_refusal_number is, n)
 
     by_bytes : (x : Option Listing) → by_rules ed.limits x ≡ REFUSED q → roll_refusal_number q ≢ BADTEXT
-    by_bytes none e n = let is : BadRoll 0 ≡ q = cc in omega (arith, ap roll_refusal_number is, n)
-    by_bytes (some l) e n = by_rule l (broken ed.limits [] l.entries) e n
+    by_bytes None e n = let is : BadRoll 0 ≡ q = cc in omega (arith, ap roll_refusal_number is, n)
+    by_bytes (Some l) e n = by_rule l (broken ed.limits [] l.entries) e n
 
     by_length : (t : Bool) → cond t (REFUSED TooLong) (by_rules ed.limits (roll ed.first bytes)) ≡ REFUSED q → roll_refusal_number q ≢ BADTEXT
     by_length true e n = let is : TooLong ≡ q = cc in omega (arith, ap roll_refusal_number is, n)
     by_length false e n = by_bytes (roll ed.first bytes) e n
 
 module _ (buffer : List ℕ) (used : ℕ) (job text : List ℕ) (printed : is_printed standard text ≡ true) where
-  by_fault : (earlier : List Entry) (place : ℕ) {q : RollRefusal} → fault standard earlier (record { place = place; parts = job ∷ text ∷ [] }) ≡ some q → roll_refusal_number q ≢ BADTEXT
+  by_fault : (earlier : List Entry) (place : ℕ) {q : RollRefusal} → fault standard earlier (record { place = place; parts = job ∷ text ∷ [] }) ≡ Some q → roll_refusal_number q ≢ BADTEXT
   unfolding fault fault_of says after_done
   by_fault earlier place {q} e = go (is_job job) (is_printed standard text) (standing job earlier) printed e
     where
-      go : (a t : Bool) (s : JobStanding) → t ≡ true → cond a (cond t (after_done s) (some BadText)) (some BadJob) ≡ some q → roll_refusal_number q ≢ BADTEXT
+      go : (a t : Bool) (s : JobStanding) → t ≡ true → cond a (cond t (after_done s) (Some BadText)) (Some BadJob) ≡ Some q → roll_refusal_number q ≢ BADTEXT
       go false t s p e n = let is : BadJob ≡ q = cc in omega (arith, ap roll_refusal_number is, n)
       go true false s p e n = false_is_not_true p
       go true true UNFILED p e n = never cc
@@ -135,9 +134,9 @@ module _ (buffer : List ℕ) (used : ℕ) (job text : List ℕ) (printed : is_pr
     where
       go : (x : Option RollRefusal) → fault standard (reverse es) (new_entry end (job ∷ text ∷ [])) ≡ x → Dec (length buffer < end + length (new_bytes edition_1 end (job ∷ text ∷ [])))
           → (roll_numbers (add_to edition_1 buffer (ENTRIES es end) (job ∷ text ∷ [])).answer).number ≢ BADTEXT
-      go (some q) e d = rw (fault-first edition_1 buffer (job ∷ text ∷ []) es end e) (by_fault (reverse es) _ e)
-      go none e (yes h) = rw (room_last edition_1 buffer (job ∷ text ∷ []) es end e h) (λ n. omega (arith, n))
-      go none e (no h) = rw (entry_made edition_1 buffer (job ∷ text ∷ []) es end e (omega arith)) (λ n. omega (arith, n))
+      go (Some q) e d = rw (fault-first edition_1 buffer (job ∷ text ∷ []) es end e) (by_fault (reverse es) _ e)
+      go None e (yes h) = rw (room_last edition_1 buffer (job ∷ text ∷ []) es end e h) (λ n. omega (arith, n))
+      go None e (no h) = rw (entry_made edition_1 buffer (job ∷ text ∷ []) es end e (omega arith)) (λ n. omega (arith, n))
 
   printed-not-refused : {tally : Tally} {a : RollAnswer} {buffer' : List ℕ} {tally' : Tally} → Adds (file edition_1 buffer used job text) tally a buffer' tally' → (roll_numbers a).number ≢ BADTEXT
   unfolding file add in_use

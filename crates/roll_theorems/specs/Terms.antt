@@ -1,8 +1,7 @@
 -- The words of the roll's theorems.
 use Rattle.std.specs.Prelude.{ℕ, ◌+◌, ◌≤◌, min, ◌≡◌, ◌⊎◌, Bool, false, cond, List, [], ◌∷◌, ◌++◌, reverse, leb, drop, length, take}
-use Rattle.roll_rules.specs.Answers.{ENTRIES, edition_1, judged, listed_as, new_entry, places, roll_numbers}
+use Rattle.roll_rules.specs.Answers.{ENTRIES, RollAnswer, edition_1, judged, listed_as, new_entry, places, roll_numbers}
 use Rattle.roll_format.specs.Format.{DONE, Entry, EntrySays, FILED, NEITHER, says}
-use Rattle.roll_rules.specs.declared.RollAnswer.{RollAnswer}
 use Rattle.roll_rules.specs.declared.Tally.{Tally}
 use Rattle.stored.specs.Same.{same}
 use Rattle.roll_rules.specs.Rules.{done, filed, FILED_AT, standing}

@@ -5,6 +5,7 @@ use mathlib.Core.Bool.{Bool, true, false, cond}
 use Rattle.std.specs.Prelude.{None as none, Some as some}
 use mathlib.Core.List.{List, reverse}
 use native.Mathlib.Omega.{arith}
+use Rattle.std.specs.Prelude.{Err}
 use lib.ListN.{length}
 use Rattle.kinds.specs.Limits.{standard, token_limit}
 use Rattle.plan.specs.Plan.{Plan}
@@ -22,14 +23,12 @@ use Rattle.roll_rules.proofs.Rules.{filed-right}
 use Rattle.roll_rules.proofs.Texts.{finished_by_plan, printed-text}
 use Rattle.roll_standing.specs.Looking.{StandingWithin, standing_told}
 use Rattle.roll_standing.specs.declared.StandingAt.{StandingAt}
-use Rattle.roll_weigh.specs.Weighed.{weighed_at, weighed_done, weighed_filed, weight_told}
-use Rattle.roll_weigh.specs.declared.Weighed.{Weighed}
-use Rattle.roll_weigh.specs.declared.Weighed.TheVariants.{Fine, Faulty}
+use Rattle.roll_weigh.specs.Weighed.{Weighed, fine, weighed_at, weighed_done, weighed_filed, weight_told}
 
 -- a FILED
 
 module _ (earlier : List Entry) (job text : List ℕ) {t : Bool} (told : t ≡ is_printed standard text) where
-  pub not-printed : t ≡ false → Faulty BadText ≡ weighed_filed earlier job text
+  pub not-printed : t ≡ false → Err BadText ≡ weighed_filed earlier job text
   unfolding weighed_filed
   not-printed h = sym (ap (λ (b : Bool). weight_told (cond b (after_done (standing job earlier)) (some BadText)) (is_new (standing job earlier)) false) (sym told ∙ h))
 
@@ -40,15 +39,15 @@ module _ (earlier : List Entry) (job text : List ℕ) {t : Bool} (told : t ≡ i
         ap (λ (x : JobStanding). weight_told (after_done x) (is_new x) false) is
         ∙ sym (ap (λ (b : Bool). weight_told (cond b (after_done (standing job earlier)) (some BadText)) (is_new (standing job earlier)) false) (sym told ∙ h))
 
-    pub filed_new : UNFILED ≡ standing job earlier → Fine true false ≡ weighed_filed earlier job text
+    pub filed_new : UNFILED ≡ standing job earlier → fine true false ≡ weighed_filed earlier job text
     unfolding after_done is_new
     filed_new is = filed_by UNFILED is
 
-    pub filed_again : {place : ℕ} {older : List ℕ} → FILED_AT place older ≡ standing job earlier → Fine false false ≡ weighed_filed earlier job text
+    pub filed_again : {place : ℕ} {older : List ℕ} → FILED_AT place older ≡ standing job earlier → fine false false ≡ weighed_filed earlier job text
     unfolding after_done is_new
     filed_again {place} {older} is = filed_by (FILED_AT place older) is
 
-    pub filed_after : {place : ℕ} → DONE_AT place ≡ standing job earlier → Faulty (AlreadyDone place) ≡ weighed_filed earlier job text
+    pub filed_after : {place : ℕ} → DONE_AT place ≡ standing job earlier → Err (AlreadyDone place) ≡ weighed_filed earlier job text
     unfolding after_done is_new
     filed_after {place} is = filed_by (DONE_AT place) is
 
@@ -59,11 +58,11 @@ module _ (earlier : List Entry) (job : List ℕ) where
   unfolding weighed_done
   done_by s is = ap (λ (x : JobStanding). weight_told (unfinished standard x) false true) is
 
-  pub done_unfiled : UNFILED ≡ standing job earlier → Faulty Unfiled ≡ weighed_done earlier job
+  pub done_unfiled : UNFILED ≡ standing job earlier → Err Unfiled ≡ weighed_done earlier job
   unfolding unfinished
   done_unfiled is = done_by UNFILED is
 
-  pub done_again : {place : ℕ} → DONE_AT place ≡ standing job earlier → Faulty (AlreadyDone place) ≡ weighed_done earlier job
+  pub done_again : {place : ℕ} → DONE_AT place ≡ standing job earlier → Err (AlreadyDone place) ≡ weighed_done earlier job
   unfolding unfinished
   done_again {place} is = done_by (DONE_AT place) is
 
@@ -72,10 +71,10 @@ module _ (earlier : List Entry) (job : List ℕ) where
     unfolding unfinished
     by_text = ap (λ (x : Bool). weight_told (cond x none (some (Unfinished place))) false true) b ∙ done_by (FILED_AT place text) is
 
-    pub done-finished : u ≡ true → Fine false true ≡ weighed_done earlier job
+    pub done-finished : u ≡ true → fine false true ≡ weighed_done earlier job
     done-finished f = sym (ap (λ (x : Bool). weight_told (cond x none (some (Unfinished place))) false true) f) ∙ by_text
 
-    pub done-unfinished : u ≡ false → Faulty (Unfinished place) ≡ weighed_done earlier job
+    pub done-unfinished : u ≡ false → Err (Unfinished place) ≡ weighed_done earlier job
     done-unfinished f = sym (ap (λ (x : Bool). weight_told (cond x none (some (Unfinished place))) false true) f) ∙ by_text
 
 -- what was found of how the job stands; the text of a FILED of the roll was accepted already: it shows a plan, and is finished where
@@ -106,7 +105,7 @@ module _ {roll : List ℕ} (job : List ℕ) {at : ℕ} {text : List ℕ} where
 -- either kind
 
 module _ (earlier : List Entry) (place : ℕ) (job text : List ℕ) {t : Bool} (told : t ≡ is_job job) where
-  pub no_job : t ≡ false → (k : EntryKind) → Faulty BadJob ≡ weighed_at earlier place (parts_of k job text)
+  pub no_job : t ≡ false → (k : EntryKind) → Err BadJob ≡ weighed_at earlier place (parts_of k job text)
   unfolding weighed_at fault fault_of says
   no_job h Filed = sym (rw (sym told ∙ h) refl)
   no_job h Done = sym (rw (sym told ∙ h) refl)

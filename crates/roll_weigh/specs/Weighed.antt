@@ -1,17 +1,23 @@
 -- What the code says of an entry: what is wrong with it, or what it adds to the tally.
-use Rattle.std.specs.Prelude.{ℕ, Bool, true, false, cond, List}
+use Rattle.std.specs.Prelude.{ℕ, Bool, true, false, cond, List, Result, Ok, Err}
 use Rattle.std.specs.Prelude.{Option, None as none, Some as some}
 use Rattle.kinds.specs.Limits.{standard}
 use Rattle.roll_format.specs.Format.{Entry, says}
 use Rattle.roll_rules.specs.Rules.{after_done, counts_done, counts_filed, fault, is_new, is_printed, standing, unfinished}
+use Rattle.roll_rules.specs.declared.Counts.{Counts}
 use Rattle.roll_rules.specs.declared.RollRefusal.{RollRefusal}
 use Rattle.roll_rules.specs.declared.RollRefusal.TheVariants.{BadText}
-use Rattle.roll_weigh.specs.declared.Weighed.{Weighed}
-use Rattle.roll_weigh.specs.declared.Weighed.TheVariants.{Fine, Faulty}
+
+abbrev pub Weighed : Type 0
+Weighed = Result Counts RollRefusal
+
+-- nothing is wrong, and it counts as this
+abbrev pub fine : (filed done : Bool) → Weighed
+fine filed done = Ok (record { filed = filed; done = done })
 
 abbrev pub weight_told : Option RollRefusal → (filed done : Bool) → Weighed
-weight_told none filed done = Fine filed done
-weight_told (some r) filed done = Faulty r
+weight_told none filed done = fine filed done
+weight_told (some r) filed done = Err r
 
 -- the entry with these sections at a place
 unfoldable pub weighed_at : (earlier : List Entry) → (place : ℕ) → (parts : List (List ℕ)) → Weighed

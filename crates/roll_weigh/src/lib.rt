@@ -9,73 +9,65 @@ ghost use Rattle.roll_weigh.specs.Weighed.{weighed_at, weighed_done, weighed_fil
 
 use finished::is_finished;
 use roll_format::EntryKind;
-use roll_rules::RollRefusal;
+use roll_rules::{Counts, RollRefusal};
 use roll_standing::{StandingAt, is_job, is_printed, look_back};
 use stored::part;
 
-#[derive(Clone, Copy)]
-pub enum Weighed {
-    // Whether it counts as a job filed, or done.
-    Fine { filed: bool, done: bool },
-    Faulty(RollRefusal),
-}
-
 // A FILED whose job number is right: whether its text is a printed one, and how the job stands.
-fn weigh_filed(roll: &[u8], upto: usize, job: &[u8], text: &[u8]) -> Weighed
+fn weigh_filed(roll: &[u8], upto: usize, job: &[u8], text: &[u8]) -> Result<Counts, RollRefusal>
     requires { HasEntriesBefore roll.now upto }
     ensures { Behind roll.now upto (λ earlier. result ≡ weighed_filed earlier job.now text.now) }
 {
     if !is_printed(text) {
-        return Weighed::Faulty(RollRefusal::BadText);
+        return Err(RollRefusal::BadText);
     }
     match look_back(roll, upto, job) {
-        StandingAt::Unfiled => Weighed::Fine {
+        StandingAt::Unfiled => Ok(Counts {
             filed: true,
             done: false,
-        },
-        StandingAt::Filed { at, text } => Weighed::Fine {
+        }),
+        StandingAt::Filed { .. } => Ok(Counts {
             filed: false, // It was counted when it was filed first.
             done: false,
-        },
-        StandingAt::Done { at } => {
-            let place = at as u32;
-            Weighed::Faulty(RollRefusal::AlreadyDone(place))
-        }
+        }),
+        StandingAt::Done { at } => Err(RollRefusal::AlreadyDone(at as u32)),
     }
 }
 
 // A DONE whose job number is right: how the job stands. The text of a FILED of the roll was accepted already, so only one
 // question is left: whether it is finished.
-fn weigh_done(roll: &[u8], upto: usize, job: &[u8]) -> Weighed
+fn weigh_done(roll: &[u8], upto: usize, job: &[u8]) -> Result<Counts, RollRefusal>
     requires { HasEntriesBefore roll.now upto }
     ensures { Behind roll.now upto (λ earlier. result ≡ weighed_done earlier job.now) }
 {
     match look_back(roll, upto, job) {
-        StandingAt::Unfiled => Weighed::Faulty(RollRefusal::Unfiled),
-        StandingAt::Done { at } => {
-            let place = at as u32;
-            Weighed::Faulty(RollRefusal::AlreadyDone(place))
-        }
+        StandingAt::Unfiled => Err(RollRefusal::Unfiled),
+        StandingAt::Done { at } => Err(RollRefusal::AlreadyDone(at as u32)),
         StandingAt::Filed { at, text } => {
-            if is_finished(part(roll, text)) {
-                return Weighed::Fine {
-                    filed: false,
-                    done: true,
-                };
+            if !is_finished(part(roll, text)) {
+                return Err(RollRefusal::Unfinished(at as u32));
             }
-            let place = at as u32;
-            Weighed::Faulty(RollRefusal::Unfinished(place))
+            Ok(Counts {
+                filed: false,
+                done: true,
+            })
         }
     }
 }
 
 // An entry of either kind, behind those before a place. A DONE has no text, and what is given for one is not looked at.
-pub fn weigh(roll: &[u8], upto: usize, kind: EntryKind, job: &[u8], text: &[u8]) -> Weighed
+pub fn weigh(
+    roll: &[u8],
+    upto: usize,
+    kind: EntryKind,
+    job: &[u8],
+    text: &[u8],
+) -> Result<Counts, RollRefusal>
     requires { HasEntriesBefore roll.now upto }
     ensures { Behind roll.now upto (λ earlier. ((place : ℕ) → result ≡ weighed_at earlier place (parts_of kind job.now text.now))) }
 {
     if !is_job(job) {
-        return Weighed::Faulty(RollRefusal::BadJob);
+        return Err(RollRefusal::BadJob);
     }
     match kind {
         EntryKind::Filed => weigh_filed(roll, upto, job, text),

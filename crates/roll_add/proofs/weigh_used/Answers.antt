@@ -8,5 +8,5 @@ returns-then-buffer-gt-LONGEST c = use_too_long _ _ (parts_of c.args.kind c.args
 
 pub returns : goal.returns
 returns c =
-    use_weighed c.args.buffer.now c.args.used (parts_of c.args.kind c.args.job.now c.args.text.now) c.if-buffer-gt-LONGEST.false c.least-end.ensures c.weigh_roll.result
+    use_weighed c.args.buffer.now c.args.used (parts_of c.args.kind c.args.job.now c.args.text.now) c.if-buffer-gt-LONGEST.false c.min-end.ensures c.weigh_roll.result
     c.weigh_roll.ensures

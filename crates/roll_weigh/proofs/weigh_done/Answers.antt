@@ -14,10 +14,10 @@ filed c es b = ap (FILED_AT c.in-Filed.at) c.part.ensures ∙ c.in-Filed.ensures
 pub is_finished-requires : goal.is_finished-requires
 is_finished-requires c = filed_shows _ c.requires (filed (goal.at.is_finished-requires c).After-part c.requires.es c.requires.before)
 
-pub returns-then-is_finished : goal.returns-then-is_finished
-returns-then-is_finished c es b =
-    let f = filed (goal.at.returns-then-is_finished c).After-part es b in
-    done-finished _ _ f (filed-finished _ es b f c.is_finished.ensures) c.if-is_finished.true
+pub returns-then-not-is_finished : goal.returns-then-not-is_finished
+returns-then-not-is_finished c es b =
+    let f = filed (goal.at.returns-then-not-is_finished c).After-part es b in
+    done-unfinished _ _ f (filed-finished _ es b f c.is_finished.ensures) c.if-not-is_finished.true
 
 pub returns-in-Unfiled : goal.returns-in-Unfiled
 returns-in-Unfiled c es b = done_unfiled _ _ (c.in-Unfiled.ensures.told es b)
@@ -25,7 +25,7 @@ returns-in-Unfiled c es b = done_unfiled _ _ (c.in-Unfiled.ensures.told es b)
 pub returns-in-Done : goal.returns-in-Done
 returns-in-Done c es b = done_again _ _ (c.in-Done.ensures.told es b)
 
-pub returns-else-is_finished : goal.returns-else-is_finished
-returns-else-is_finished c es b =
-    let f = filed (goal.at.returns-else-is_finished c).After-part es b in
-    done-unfinished _ _ f (filed-finished _ es b f c.is_finished.ensures) c.if-is_finished.false
+pub returns-else-not-is_finished : goal.returns-else-not-is_finished
+returns-else-not-is_finished c es b =
+    let f = filed (goal.at.returns-else-not-is_finished c).After-part es b in
+    done-finished _ _ f (filed-finished _ es b f c.is_finished.ensures) c.if-not-is_finished.false
