@@ -9,9 +9,10 @@ use native.Mathlib.Omega.{arith}
 use lib.ListN.{length, set}
 use Rattle.kinds.specs.Limits.{cell_limit}
 use Rattle.plan.specs.Plan.{labels}
-use Rattle.memory.specs.Memory.{start, close, link, whole}
-use Rattle.memory.specs.Model.{Lent, Aside}
-use Rattle.memory.proofs.Whole.{aside_on, aside_same, lent-kept}
+use Rattle.memory.specs.Held.{SameCells, held_numbers}
+use Rattle.memory.specs.Memory.{start, close, link}
+use Rattle.memory.specs.declared.Held.{Held}
+use Rattle.memory.proofs.Steps.{cells_same, same_at, same_on}
 use Rattle.blocks.specs.Blocks.{BlockFreed, Leaves, freed, first_free}
 use Rattle.blocks.proofs.Starts.{starts, starts_even, starts_odd, starts_block, way_through}
 use Rattle.blocks.proofs.Ways.{ahead, leads_beside, ahead_end, way_ahead, way_from, Way, WayAhead, turn}
@@ -20,91 +21,103 @@ use Rattle.blocks.proofs.Ways.{ahead, leads_beside, ahead_end, way_ahead, way_fr
 abbrev pub to_free : (w : List ℕ) → (n stop port : ℕ) → List ℕ
 to_free w n stop port = starts (ahead w n stop port)
 
-pub record Dropping (m₀ : List ℕ) (n first stop from free₀ : ℕ) (m : List ℕ) (port free : ℕ) : Type 0 where
-  pub lent : Lent n m
-  pub aside : Aside n m₀ m
-  pub way : Way (whole n m first) n stop port (ahead (whole n m first) n stop port)
-  pub numbers : freed (whole n m first) free (to_free (whole n m first) n stop port)
-      ≡ freed (whole n m₀ first) free₀ (to_free (whole n m₀ first) n stop from)
-  pub frees : first_free free (to_free (whole n m first) n stop port) ≡ first_free free₀ (to_free (whole n m₀ first) n stop from)
+-- all of them freed in the memory h, where `spare` is the first free cell
+abbrev pub all_freed : (h : Held) → (spare n stop port : ℕ) → List ℕ
+all_freed h spare n stop port = freed (held_numbers h) spare (to_free (held_numbers h) n stop port)
 
-module _ {n : ℕ} {m : List ℕ} {first c : ℕ} (h : Leaves n m first c) where
+abbrev pub then_free : (h : Held) → (spare n stop port : ℕ) → ℕ
+then_free h spare n stop port = first_free spare (to_free (held_numbers h) n stop port)
+
+-- h₀ is the memory as it was where the walk began
+pub record Dropping (h₀ : Held) (stop from : ℕ) (h : Held) (port : ℕ) : Type 0 where
+  pub same : SameCells h₀ h
+  pub way : Way (held_numbers h) h₀.outer.0 stop port (ahead (held_numbers h) h₀.outer.0 stop port)
+  pub numbers : all_freed h h.free.0 h₀.outer.0 stop port ≡ all_freed h₀ h₀.free.0 h₀.outer.0 stop from
+  pub frees : then_free h h.free.0 h₀.outer.0 stop port ≡ then_free h₀ h₀.free.0 h₀.outer.0 stop from
+
+module _ {h : Held} {c : ℕ} (k : Leaves h c) where
   pub drop-small : c ≤ cell_limit
-  drop-small = omega (arith, h.alone.below.0, h.lent.few)
+  drop-small = omega (arith, k.alone.below.0, h.lent.few)
 
-  pub drop-first : (stop port free : ℕ) → stop ≡ close c → port ≡ start c → Dropping m n first stop port free m port free
-  drop-first stop port free e s =
-      rw (e, s) record { lent = h.lent; aside = aside_same; way = way_from (way_through h.alone); numbers = refl; frees = refl }
+  pub drop-first : (stop port : ℕ) → stop ≡ close c → port ≡ start c → Dropping h stop port h port
+  drop-first stop port e s = rw (e, s) record { same = same_at; way = way_from (way_through k.alone); numbers = refl; frees = refl }
 
-module _ {m₀ : List ℕ} {n first stop from free₀ : ℕ} {m : List ℕ} {port free : ℕ}
-    (h : Dropping m₀ n first stop from free₀ m port free) (more : port ≢ stop) where
+module _ {h₀ : Held} {stop from : ℕ} {h : Held} {port : ℕ} (k : Dropping h₀ stop from h port) (more : port ≢ stop) where
+  abbrev n : ℕ
+  n = h₀.outer.0
+
   abbrev w : List ℕ
-  w = whole n m first
+  w = held_numbers h
 
   here : WayAhead w n stop port
-  here = turn h.way more
+  here = turn k.way more
 
-  pub drop_low : port < start n
-  drop_low = here.low
+  pub drop_low : port < start h.outer.0
+  drop_low =
+      let low = here.low in
+      let e = cells_same k.same in omega arith
 
   module _ (next : ℕ) (onward : next ≡ link w port) where
     -- a close is passed over
     pub close_less : length (ahead w n stop next) < length (ahead w n stop port)
     close_less = rw onward (omega (arith, ap length here.on))
 
-    pub drop-close : port % 2 ≢ 0 → Dropping m₀ n first stop from free₀ m next free
+    pub drop-close : port % 2 ≢ 0 → Dropping h₀ stop from h next
     drop-close odd =
-        let same : to_free w n stop (link w port) ≡ to_free w n stop port = sym (ap starts here.on ∙ starts_odd port _ odd) in
+        let passed : to_free w n stop (link w port) ≡ to_free w n stop port = sym (ap starts here.on ∙ starts_odd port _ odd) in
         rw onward record {
-          lent = h.lent;
-          aside = h.aside;
+          same = k.same;
           way = here.way;
-          numbers = ap (freed w free) same ∙ h.numbers;
-          frees = ap (first_free free) same ∙ h.frees;
+          numbers = ap (freed w h.free.0) passed ∙ k.numbers;
+          frees = ap (first_free h.free.0) passed ∙ k.frees;
         }
 
     -- whatever a start's cell keeps, the way goes on
-    module _ (m' : List ℕ) (v : ℕ) (kept : (k : ℕ) → whole n m' k ≡ set (whole n m k) (2 * port + 1) v) where
-      way' : Way (whole n m' first) n stop next (ahead w n stop (link w port))
+    module _ (w' : List ℕ) (v : ℕ) (kept : w' ≡ set w (2 * port + 1) v) where
+      way' : Way w' n stop next (ahead w n stop (link w port))
       way' =
           let on = here.way in
-          rw (kept first, onward) record {
+          rw (kept, onward) record {
             leads = leads_beside w stop (link w port) (ahead w n stop (link w port)) port v here.past on.leads;
             once = on.once;
             below = on.below;
           }
 
-      pub start_less : length (ahead (whole n m' first) n stop next) < length (ahead w n stop port)
+      pub start_less : length (ahead w' n stop next) < length (ahead w n stop port)
       start_less = omega (arith, ap length here.on, ap length (way_ahead way'))
 
     -- a start's cell is freed
-    module _ (m' : List ℕ) (kept : (k : ℕ) → whole n m' k ≡ set (whole n m k) (2 * port + 1) free) (beside : Aside n m m') where
-      pub drop-start : port % 2 ≡ 0 → (top : ℕ) → top ≡ port / 2 → Dropping m₀ n first stop from free₀ m' next top
+    module _ (h' : Held) (kept : held_numbers h' ≡ set w (2 * port + 1) h.free.0) (same : SameCells h h') where
+      pub drop-start : port % 2 ≡ 0 → h'.free.0 ≡ port / 2 → Dropping h₀ stop from h' next
       unfolding freed first_free
-      drop-start even top e =
+      drop-start even e =
+          let w' = held_numbers h' in
+          let on = way' w' h.free.0 kept in
           let cs = to_free w n stop (link w port) in
           let all : to_free w n stop port ≡ port / 2 ∷ cs = ap starts here.on ∙ starts_even port _ even in
-          let rest : to_free (whole n m' first) n stop next ≡ cs = ap starts (way_ahead (way' m' free kept)) in
+          let rest : to_free w' n stop next ≡ cs = ap starts (way_ahead on) in
           let this : start (port / 2) ≡ port = omega arith in
-          rw e record {
-            lent = lent-kept h.lent beside.as_long;
-            aside = aside_on h.aside beside;
-            way = way_from (way' m' free kept);
+          record {
+            same = same_on k.same same;
+            way = way_from on;
             numbers =
-                ap (freed (whole n m' first) (port / 2)) rest
-                ∙ ap (λ v. freed v (port / 2) cs) (kept first ∙ ap (λ p. set w (2 * p + 1) free) (sym this))
-                ∙ ap (freed w free) (sym all) ∙ h.numbers;
-            frees = ap (first_free (port / 2)) rest ∙ ap (first_free free) (sym all) ∙ h.frees;
+                ap (λ f. freed w' f (to_free w' n stop next)) e ∙ ap (freed w' (port / 2)) rest
+                ∙ ap (λ v. freed v (port / 2) cs) (kept ∙ ap (λ p. set w (2 * p + 1) h.free.0) (sym this))
+                ∙ ap (freed w h.free.0) (sym all) ∙ k.numbers;
+            frees =
+                ap (λ f. first_free f (to_free w' n stop next)) e ∙ ap (first_free (port / 2)) rest
+                ∙ ap (first_free h.free.0) (sym all) ∙ k.frees;
           }
 
 -- at the stop nothing is ahead, so all is freed, of every block that the cell begins
-pub drop_end : {m₀ : List ℕ} {n first stop from free₀ : ℕ} {m : List ℕ} {port free : ℕ} → Dropping m₀ n first stop from free₀ m port free
-    → port ≡ stop → (c : ℕ) → stop ≡ close c → from ≡ start c → BlockFreed n m₀ first free₀ c m free
+pub drop_end : {h₀ : Held} {stop from : ℕ} {h : Held} {port : ℕ} → Dropping h₀ stop from h port
+    → port ≡ stop → (c : ℕ) → stop ≡ close c → from ≡ start c → BlockFreed h₀ c h
 unfolding starts freed first_free
-drop_end {m₀} {n} {first} {stop} {from} {free₀} {m} {port} {free} h e c s f b alone =
-    let none : to_free (whole n m first) n stop port ≡ [] = ap starts (ahead_end (whole n m first) n stop port e) in
-    let all : to_free (whole n m₀ first) n stop from ≡ c ∷ labels b = rw (s, f) (ap starts (way_ahead (way_through alone)) ∙ starts_block c b) in
+drop_end {h₀} {stop} {from} {h} {port} k e c s f b alone =
+    let n = h₀.outer.0 in
+    let none : to_free (held_numbers h) n stop port ≡ [] = ap starts (ahead_end (held_numbers h) n stop port e) in
+    let all : to_free (held_numbers h₀) n stop from ≡ c ∷ labels b = rw (s, f) (ap starts (way_ahead (way_through alone)) ∙ starts_block c b) in
     record {
-      numbers = sym (ap (freed (whole n m first) free) none) ∙ h.numbers ∙ ap (freed (whole n m₀ first) free₀) all;
-      frees = sym (ap (first_free free) none) ∙ h.frees ∙ ap (first_free free₀) all;
+      numbers = sym (ap (freed (held_numbers h) h.free.0) none) ∙ k.numbers ∙ ap (freed (held_numbers h₀) h₀.free.0) all;
+      frees = sym (ap (first_free h.free.0) none) ∙ k.frees ∙ ap (first_free h₀.free.0) all;
     }

@@ -2,17 +2,15 @@
 -- counted stands in a plan (`HasBlock`). A block that is freed has left its plan: it is only linked in itself (`Alone`).
 use Rattle.std.specs.Prelude.{ℕ, ◌+◌, ◌*◌, ◌≡◌, List, [], ◌∷◌, ◌++◌, set}
 use Rattle.plan.specs.Plan.{Plan, labels}
-use Rattle.memory.specs.Held.{BlockIn, HeldIn}
-use Rattle.memory.specs.Memory.{start, close, whole, ports, Linked, Below, Distinct}
-use Rattle.memory.specs.Model.{Lent}
+use Rattle.memory.specs.Held.{BlockIn, HeldIn, held_numbers}
+use Rattle.memory.specs.Memory.{start, close, ports, Linked, Below, Distinct}
 use Rattle.memory.specs.declared.Held.{Held}
 
 -- the memory holds a plan with a block at the cell c
-pub record HasBlock (text m : List ℕ) (h : Held) (c : ℕ) : Type 0 where
-  pub lent : Lent h.outer.0 m
+pub record HasBlock (text : List ℕ) (h : Held) (c : ℕ) : Type 0 where
   pub plan : Plan ℕ
   pub contents : Plan ℕ
-  pub held : HeldIn text m h plan
+  pub held : HeldIn text h plan
   pub inside : BlockIn c contents plan
 
 -- the block at the cell c with the contents b is linked in itself, from its start to its close, whatever leads to it
@@ -22,10 +20,9 @@ pub record Alone (n : ℕ) (w : List ℕ) (c : ℕ) (b : Plan ℕ) : Type 0 wher
   pub below : Below n (c ∷ labels b)
 
 -- the memory has such a block
-pub record Leaves (n : ℕ) (m : List ℕ) (first c : ℕ) : Type 0 where
-  pub lent : Lent n m
+pub record Leaves (h : Held) (c : ℕ) : Type 0 where
   pub contents : Plan ℕ
-  pub alone : Alone n (whole n m first) c contents
+  pub alone : Alone h.outer.0 (held_numbers h) c contents
 
 -- the cells of the list go to the front of the free ones, one after the other
 unfoldable pub freed : List ℕ → (free : ℕ) → List ℕ → List ℕ
@@ -37,12 +34,12 @@ first_free free [] = free
 first_free free (c ∷ cs) = first_free c cs
 
 -- the cells of the list are free in the memory
-pub record CellsFreed (n : ℕ) (m : List ℕ) (first free : ℕ) (cs m' : List ℕ) (top : ℕ) : Type 0 where
+pub record CellsFreed (h : Held) (cs : List ℕ) (h' : Held) : Type 0 where
   -- the start of each keeps the cell that was the first free one before it, and no other number changed
-  pub numbers : whole n m' first ≡ freed (whole n m first) free cs
+  pub numbers : held_numbers h' ≡ freed (held_numbers h) h.free.0 cs
   -- the last of them is the first free one
-  pub frees : top ≡ first_free free cs
+  pub frees : h'.free.0 ≡ first_free h.free.0 cs
 
 -- the cells of the block at c are free: its own, then those of its contents in their order
-abbrev pub BlockFreed : (n : ℕ) → (m : List ℕ) → (first free c : ℕ) → (m' : List ℕ) → (top : ℕ) → Type 0
-BlockFreed n m first free c m' top = (b : Plan ℕ) → Alone n (whole n m first) c b → CellsFreed n m first free (c ∷ labels b) m' top
+abbrev pub BlockFreed : Held → (c : ℕ) → Held → Type 0
+BlockFreed h c h' = (b : Plan ℕ) → Alone h.outer.0 (held_numbers h) c b → CellsFreed h (c ∷ labels b) h'

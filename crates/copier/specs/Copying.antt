@@ -2,25 +2,22 @@
 -- was free and which no port links to yet. Then the step of the builder that puts the like of a port.
 use Rattle.std.specs.Prelude.{ℕ, ◌+◌, ◌≤◌, ◌<◌, ◌≡◌, List, [], ◌∷◌, ◌++◌}
 use Rattle.plan.specs.Plan.{Plan, bare, cells, labels}
-use Rattle.memory.specs.Held.{BlockIn, HeldIn}
-use Rattle.memory.specs.Memory.{start, close, datum, whole, block_kind, ports, Linked, Says, Shared}
-use Rattle.memory.specs.Model.{FindsCell, Lent, Model, Buildable, model, with_piece}
+use Rattle.memory.specs.Held.{BlockIn, HeldIn, held_numbers}
+use Rattle.memory.specs.Memory.{start, close, datum, block_kind, ports, Linked, Says, Shared}
+use Rattle.memory.specs.Model.{FindsCell, Model, Buildable, model, with_piece}
 use Rattle.memory.specs.Pieces.{piece_at}
-use Rattle.memory.specs.declared.Build.{Build}
 use Rattle.memory.specs.declared.Held.{Held}
-use Rattle.copier.specs.declared.Copied.{Copied}
 
 -- the memory holds the plan t; a block at the cell c with the contents b stands in t; and there is room for a copy of that block
-pub record Copies (text m : List ℕ) (h : Held) (c : ℕ) (t b : Plan ℕ) : Type 0 where
-  pub held : HeldIn text m h t
+pub record Copies (text : List ℕ) (h : Held) (c : ℕ) (t b : Plan ℕ) : Type 0 where
+  pub held : HeldIn text h t
   pub found : BlockIn c b t
   pub room : cells t + (1 + cells b) ≤ h.outer.0
 
-pub record Copyable (text m : List ℕ) (h : Held) (c : ℕ) : Type 0 where
-  pub lent : Lent h.outer.0 m
+pub record Copyable (text : List ℕ) (h : Held) (c : ℕ) : Type 0 where
   pub plan : Plan ℕ
   pub contents : Plan ℕ
-  pub copies : Copies text m h c plan contents
+  pub copies : Copies text h c plan contents
 
 -- the plan t as before, and beside it a block at the cell `copy` with contents that are b, except for their cells
 pub record CopyHeld (text : List ℕ) (n : ℕ) (w : List ℕ) (free copy : ℕ) (t b : Plan ℕ) : Type 0 where
@@ -33,16 +30,16 @@ pub record CopyHeld (text : List ℕ) (n : ℕ) (w : List ℕ) (free copy : ℕ)
   pub copy_says : Says text w contents
   pub shared : Shared n w free (labels t ++ copy ∷ labels contents)
 
-abbrev pub CopyMade : (text m : List ℕ) → Copied → (t b : Plan ℕ) → Type 0
-CopyMade text m r t b =
-    CopyHeld text r.held.outer.0 (whole r.held.outer.0 m r.held.first.0) r.held.free.0 r.copy.0 t b
+-- the memory holds the plan t, and beside it such a copy
+abbrev pub CopyMade : (text : List ℕ) → Held → (copy : ℕ) → (t b : Plan ℕ) → Type 0
+CopyMade text h copy t b = CopyHeld text h.outer.0 (held_numbers h) h.free.0 copy t b
 
 -- the step that puts the like of a port: the piece that the port shows
 unfoldable pub like : Model → (port : ℕ) → Model
 like s port = with_piece s (piece_at s.numbers port)
 
 -- a port of a lent cell, whose like can be put
-pub record LikeReady (m : List ℕ) (b : Build) (port : ℕ) : Type 0 where
-  pub ready : Buildable m b
+pub record LikeReady (b : Held) (port : ℕ) : Type 0 where
+  pub ready : Buildable b
   pub below : port < start b.outer.0
-  pub finds : FindsCell b.free.0 b.opened.0 b.outer.0 (piece_at (model m b).numbers port)
+  pub finds : FindsCell b.free.0 b.opened.0 b.outer.0 (piece_at (model b).numbers port)

@@ -2,55 +2,40 @@
 // stand in one chain, and for each of them the builder puts its like. There is no recursion, and nothing is kept beside the copy.
 #![tactic(auto)]
 
-ghost use Rattle.std.specs.Prelude.{◌≡◌, ℕ};
+ghost use Rattle.std.specs.Prelude.{ℕ};
 ghost use Rattle.plan.specs.Plan.{Plan};
-ghost use Rattle.memory.specs.Model.{Aside, Stepped, model};
+ghost use Rattle.memory.specs.Held.{SameCells};
+ghost use Rattle.memory.specs.Model.{Stepped, model};
 ghost use Rattle.copier.specs.Copying.{Copies, Copyable, CopyMade, LikeReady, like};
 
 use builder::{begin_apart, put_piece};
 use kinds::Cell;
-use memory::{Build, Held, Port, link_of, piece_at, set_link};
-
-// The plan as it is held with the copy beside it, and the cell of the copy.
-#[derive(Clone, Copy)]
-pub struct Copied {
-    pub held: Held,
-    pub copy: Cell,
-}
+use memory::{Held, Port};
 
 // Puts the like of a port behind the last item.
-fn put_like(memory: &mut [u32], b: Build, port: Port) -> Build
-    requires { LikeReady memory.old b port.0 }
-    ensures { Stepped memory.old b memory.new result (like (model memory.old b) port.0) }
+fn put_like(held: &mut Held, port: Port)
+    requires { LikeReady held.old port.0 }
+    ensures { Stepped held.old held.new (like (model held.old) port.0) }
 {
-    let piece = piece_at(memory, port);
-    put_piece(memory, b, piece)
+    let piece = held.piece_at(port);
+    put_piece(held, piece);
 }
 
-// Copies the block at a cell into the first free cells.
-pub fn copy_block(text: &[u8], memory: &mut [u32], held: Held, block: Cell) -> Copied
-    requires { Copyable text.now memory.old held block.0 }
-    ensures made { (t b : Plan ℕ) → Copies text.now memory.old held block.0 t b → CopyMade text.now memory.new result t b }
-    ensures same_cells { result.held.outer ≡ held.outer }
-    ensures aside { Aside held.outer.0 memory.old memory.new }
+// Copies the block at a cell into the first free cells, beside the plan as it is held. Answers the cell of the copy.
+pub fn copy_block(text: &[u8], held: &mut Held, block: Cell) -> Cell
+    requires { Copyable text.now held.old block.0 }
+    ensures made { (t b : Plan ℕ) → Copies text.now held.old block.0 t b → CopyMade text.now held.new result.0 t b }
+    ensures same { SameCells held.old held.new }
 {
-    let outer = held.outer;
     let copy = held.free;
-    let mut build = begin_apart(memory, held);
-    let begin = build.first;
     let end = Port::close(block);
-    let mut port = link_of(memory, outer, begin, Port::start(block));
-    while port.0 != end.0 {
-        build = put_like(memory, build, port);
-        let begin = build.first;
-        port = link_of(memory, outer, begin, port);
+    begin_apart(held);
+    let mut port = held.link_of(Port::start(block));
+    while port != end {
+        put_like(held, port);
+        port = held.link_of(port);
     }
-    let begin = build.first;
-    let last = build.tail;
-    let free = build.free;
-    let first = set_link(memory, outer, begin, last, Port::close(copy));
-    Copied {
-        held: Held { outer, first, free },
-        copy,
-    }
+    let last = held.tail;
+    held.set_link(last, Port::close(copy));
+    copy
 }

@@ -7,19 +7,19 @@ use native.Mathlib.Omega.{arith}
 use native.Mathlib.Numerals.{add-one}
 use borrow.Author.Tests.{ltb-false, ltb-true}
 use lib.Dec.{ltb}
-use Rattle.kinds.specs.declared.Cell.{Cell}
 use Rattle.plan.specs.Plan.{Plan, bare, cells}
 use Rattle.rules.specs.Running.{Ran, RAN, one_step_more, run_plan}
 use Rattle.rules.specs.declared.Ending.{Ending}
 use Rattle.rules.specs.declared.Ending.TheVariants.{Done, Quota, Full}
 use Rattle.plan.proofs.Plans.{cells-relabel}
 use Rattle.rules.proofs.Runs.{ask-relabel, retell, run_go, run_spent, run_stop}
-use Rattle.memory.specs.Model.{Aside, Lent}
+use Rattle.memory.specs.Held.{SameCells}
 use Rattle.memory.specs.declared.Held.{Held}
-use Rattle.memory.proofs.Whole.{aside_on, aside_same, lent-kept}
-use Rattle.engine.specs.Running.{RanAs, Runnable, SameCells, Sized, TurnMade, Turned}
-use Rattle.engine.specs.declared.Turn.{Turn}
-use Rattle.engine.specs.declared.Turn.TheVariants.{Stopped, Went}
+use Rattle.memory.proofs.Steps.{same_at, same_on}
+use Rattle.memory.proofs.Steps.{cells_same as still}
+use Rattle.engine.specs.Running.{RanAs, Runnable, Sized, TurnMade, Turned}
+use Rattle.std.specs.declared.ops.ControlFlow.{ControlFlow}
+use Rattle.std.specs.declared.ops.ControlFlow.TheVariants.{Continue, Break}
 
 -- so many steps more
 pub plus : {L : Type 0} → (steps : ℕ) → Ran L → Ran L
@@ -32,58 +32,53 @@ plus_ran zero e s p = ap (λ x. RAN e x p) (omega arith)
 plus_ran (suc k) e s p = plus_ran k e (suc s) p ∙ ap (λ x. RAN e x p) (omega arith)
 
 -- where the run stands: the plan held now, and what is left of the quota
-pub record Reaches (text : List ℕ) (n quota : ℕ) (t₀ : Plan ℕ) (m : List ℕ) (h : Held) (size steps : ℕ) : Type 0 where
+pub record Reaches (text : List ℕ) (n quota : ℕ) (t₀ : Plan ℕ) (h : Held) (size steps : ℕ) : Type 0 where
   pub plan : Plan ℕ
-  pub sized : Sized text m h size plan
+  pub sized : Sized text h size plan
   pub left : ℕ
   pub counts : steps + left ≡ quota
   pub runs : run_plan n quota (bare t₀) ≡ plus steps (run_plan n left (bare plan))
 
-pub record RunSoFar (text m₀ : List ℕ) (h₀ : Held) (size₀ quota : ℕ) (m : List ℕ) (h : Held) (size steps : ℕ) : Type 0 where
-  pub began : Runnable text m₀ h₀ size₀
-  pub same : h.outer ≡ h₀.outer
-  pub aside : Aside h₀.outer.0 m₀ m
-  pub each : (t : Plan ℕ) → Sized text m₀ h₀ size₀ t → Reaches text h₀.outer.0 quota t m h size steps
+pub record RunSoFar (text : List ℕ) (h₀ : Held) (size₀ quota : ℕ) (h : Held) (size steps : ℕ) : Type 0 where
+  pub began : Runnable text h₀ size₀
+  pub same : SameCells h₀ h
+  pub each : (t : Plan ℕ) → Sized text h₀ size₀ t → Reaches text h₀.outer.0 quota t h size steps
 
-pub so_far-first : {text m : List ℕ} {h : Held} {size : ℕ} (quota : ℕ) → Runnable text m h size → RunSoFar text m h size quota m h size 0
+pub so_far-first : {text : List ℕ} {h : Held} {size : ℕ} (quota : ℕ) → Runnable text h size → RunSoFar text h size quota h size 0
 unfolding plus
 so_far-first quota k =
     record {
       began = k;
-      same = refl;
-      aside = aside_same;
+      same = same_at;
       each = λ t s. record { plan = t; sized = s; left = quota; counts = omega arith; runs = refl };
     }
 
-module _ {text m₀ : List ℕ} {h₀ : Held} {size₀ quota : ℕ} {m : List ℕ} {h : Held} {size steps : ℕ} (g : RunSoFar text m₀ h₀ size₀ quota m h size steps) where
-  pub so_far_runnable : Runnable text m h size
+module _ {text : List ℕ} {h₀ : Held} {size₀ quota : ℕ} {h : Held} {size steps : ℕ} (g : RunSoFar text h₀ size₀ quota h size steps) where
+  pub so_far_runnable : Runnable text h size
   so_far_runnable =
       let r = g.each g.began.plan g.began.sized in
-      record { lent = subst (λ (c : Cell). Lent c.0 m) (sym g.same) (lent-kept g.began.lent g.aside.as_long); plan = r.plan; sized = r.sized }
+      record { plan = r.plan; sized = r.sized }
 
   cells_same : h.outer.0 ≡ h₀.outer.0
-  cells_same = ap (λ (c : Cell). c.0) g.same
-
-  pub so_far_aside : {m' : List ℕ} → Aside h.outer.0 m m' → Aside h₀.outer.0 m₀ m'
-  so_far_aside {m'} aside = aside_on g.aside (subst (λ k. Aside k m m') cells_same aside)
+  cells_same = still g.same
 
   -- the turn stopped the run
-  stops : (m' : List ℕ) (e : Ending) (t₀ : Plan ℕ) (r : Reaches text h₀.outer.0 quota t₀ m h size steps) → Turned text m h (ltb steps quota) m' (Stopped e) r.plan
-      → (m' ≡ m) × (run_plan h₀.outer.0 r.left (bare r.plan) ≡ RAN e 0 (bare r.plan))
+  stops : (h' : Held) (e : Ending) (t₀ : Plan ℕ) (r : Reaches text h₀.outer.0 quota t₀ h size steps) → Turned text h (ltb steps quota) h' (Break e) r.plan
+      → (h' ≡ h) × (run_plan h₀.outer.0 r.left (bare r.plan) ≡ RAN e 0 (bare r.plan))
   unfolding retell
-  stops m' Done t₀ r (same, asks) =
+  stops h' Done t₀ r (same, asks) =
       (same, run_stop h₀.outer.0 r.left (bare r.plan) (ask-relabel _ h₀.outer.0 r.plan (rw cells_same at asks)))
-  stops m' Full t₀ r (same, asks) =
+  stops h' Full t₀ r (same, asks) =
       (same, run_stop h₀.outer.0 r.left (bare r.plan) (ask-relabel _ h₀.outer.0 r.plan (rw cells_same at asks)))
-  stops m' Quota t₀ r (same, no_more, (p, asks)) =
+  stops h' Quota t₀ r (same, no_more, (p, asks)) =
       let none_left : r.left ≡ 0 = omega (arith, ltb-false steps quota no_more, r.counts) in
       (same, rw none_left (run_spent h₀.outer.0 (bare r.plan) (ask-relabel _ h₀.outer.0 r.plan (rw cells_same at asks))))
 
   -- the turn went on: one more step, and one fewer is left
-  went : (m' : List ℕ) (h' : Held) (size' : ℕ) (t₀ : Plan ℕ) (r : Reaches text h₀.outer.0 quota t₀ m h size steps)
-      → Turned text m h (ltb steps quota) m' (Went h' size') r.plan → Reaches text h₀.outer.0 quota t₀ m' h' size' (steps + 1)
+  went : (h' : Held) (size' : ℕ) (t₀ : Plan ℕ) (r : Reaches text h₀.outer.0 quota t₀ h size steps)
+      → Turned text h (ltb steps quota) h' (Continue size') r.plan → Reaches text h₀.outer.0 quota t₀ h' size' (steps + 1)
   unfolding retell plus
-  went m' h' size' t₀ r (is_more, (p, asks, made, sized)) =
+  went h' size' t₀ r (is_more, (p, asks, made, sized)) =
       let n = h₀.outer.0 in
       let further = ltb-true steps quota is_more in
       let left' : ℕ = r.left - 1 in
@@ -100,21 +95,21 @@ module _ {text m₀ : List ℕ} {h₀ : Held} {size₀ quota : ℕ} {m : List �
       }
 
   -- the turn as it was made
-  module _ (m' : List ℕ) (turn : Turn) (turned : TurnMade text m h size (ltb steps quota) m' turn) where
-    pub so_far_stop : {e : Ending} → turn ≡ Stopped e → (t : Plan ℕ) → Sized text m₀ h₀ size₀ t
-        → RanAs text h₀.outer.0 quota t m' (record { ending = e; steps = steps; held = h; size = size })
+  module _ (h' : Held) (turn : ControlFlow Ending ℕ) (turned : TurnMade text h size (ltb steps quota) h' turn) where
+    pub so_far_stop : {e : Ending} → turn ≡ Break e → (t : Plan ℕ) → Sized text h₀ size₀ t
+        → RanAs text h₀.outer.0 quota t h' (record { ending = e; steps = steps; size = size })
     so_far_stop {e} is t s =
         let r = g.each t s in
-        let (same, ended) = stops m' e t r (subst (λ x. Turned text m h (ltb steps quota) m' x r.plan) is (turned r.plan r.sized)) in
+        let (same, ended) = stops h' e t r (subst (λ x. Turned text h (ltb steps quota) h' x r.plan) is (turned r.plan r.sized)) in
         record {
           plan = r.plan;
           runs = r.runs ∙ ap (plus steps) ended ∙ plus_ran steps e 0 (bare r.plan) ∙ ap (λ k. RAN e k (bare r.plan)) (omega arith);
-          sized = subst (λ x. Sized text x h size r.plan) (sym same) r.sized;
+          sized = subst (λ x. Sized text x size r.plan) (sym same) r.sized;
         }
 
-    module _ {h' : Held} {size' : ℕ} (is : turn ≡ Went h' size') where
-      turned_on : TurnMade text m h size (ltb steps quota) m' (Went h' size')
-      turned_on t s = subst (λ x. Turned text m h (ltb steps quota) m' x t) is (turned t s)
+    module _ {size' : ℕ} (is : turn ≡ Continue size') where
+      turned_on : TurnMade text h size (ltb steps quota) h' (Continue size')
+      turned_on t s = subst (λ x. Turned text h (ltb steps quota) h' x t) is (turned t s)
 
       pub so_far_more : steps < quota
       so_far_more = let r = so_far_runnable in ltb-true steps quota (turned_on r.plan r.sized).0
@@ -122,11 +117,10 @@ module _ {text m₀ : List ℕ} {h₀ : Held} {size₀ quota : ℕ} {m : List �
       pub so_far_less : quota - (steps + 1) < quota - steps
       so_far_less = let more = so_far_more in omega arith
 
-      pub so_far_on : SameCells h turn → Aside h.outer.0 m m' → RunSoFar text m₀ h₀ size₀ quota m' h' size' (steps + 1)
-      so_far_on same aside =
+      pub so_far_on : SameCells h h' → RunSoFar text h₀ size₀ quota h' size' (steps + 1)
+      so_far_on same =
           record {
             began = g.began;
-            same = subst (SameCells h) is same ∙ g.same;
-            aside = so_far_aside aside;
-            each = λ t s. (let r = g.each t s in went m' h' size' t r (turned_on r.plan r.sized));
+            same = same_on g.same same;
+            each = λ t s. (let r = g.each t s in went h' size' t r (turned_on r.plan r.sized));
           }

@@ -23,10 +23,10 @@ use Rattle.hunt.proofs.Window.{stands_rule}
 use Rattle.rewrites.proofs.Gaps.{gap_block}
 use Rattle.engine.specs.Running.{Countable, Spotted}
 
-held_cells : (text m : List ℕ) (h : Held) (t : Plan ℕ) → HeldIn text m h t → cells t ≤ h.outer.0
-held_cells text m h t k = omega (arith, length-labels t, length-append (labels t) k.shared.spare, k.shared.all)
+held_cells : (text : List ℕ) (h : Held) (t : Plan ℕ) → HeldIn text h t → cells t ≤ h.outer.0
+held_cells text h t k = omega (arith, length-labels t, length-append (labels t) k.shared.spare, k.shared.all)
 
-module _ {text m : List ℕ} {h : Held} {spot : Spot} {size : ℕ} {f : Frame ℕ} {q q' : Plan ℕ} (k : Spotted text m h spot size f q q') where
+module _ {text : List ℕ} {h : Held} {spot : Spot} {size : ℕ} {f : Frame ℕ} {q q' : Plan ℕ} (k : Spotted text h spot size f q q') where
   abbrev X : Plan ℕ
   X = k.stands.front
 
@@ -55,7 +55,7 @@ module _ {text m : List ℕ} {h : Held} {spot : Spot} {size : ℕ} {f : Frame �
       subst (λ z. BlockIn spot.newer.0 r.newer (plug f z)) (then_assoc X _ _ ∙ sym r.is)
       (gap_block spot.newer.0 r.newer f _ _ (inl (refl, refl)))
 
-  module _ (count : ℕ) (counts : (t b : Plan ℕ) → HeldIn text m h t → BlockIn spot.newer.0 b t → count ≡ cells b) where
+  module _ (count : ℕ) (counts : (t b : Plan ℕ) → HeldIn text h t → BlockIn spot.newer.0 b t → count ≡ cells b) where
     exact : {o : Operator} (r : RuleAt spot o X p q q') → count ≡ cells r.newer
     exact r = counts (plug f q) r.newer k.held (inside r)
 
@@ -80,23 +80,23 @@ module _ {text m : List ℕ} {h : Held} {spot : Spot} {size : ℕ} {f : Frame �
         omega (arith, exact r, k.sized, cells-plug f q end, ap cells r.is, cells-then X (before then b), cells-then before b)
 
 -- what `size_after` asks for
-module _ {text m : List ℕ} {h : Held} {spot : Spot} {size : ℕ} (k : Countable text m h spot size) where
+module _ {text : List ℕ} {h : Held} {spot : Spot} {size : ℕ} (k : Countable text h spot size) where
   pub two_fewer : spot.which ≡ op_a → 2 ≤ size
   two_fewer is = omega (arith, size_a k.spotted is)
 
   pub one_fewer : spot.which ≡ op_b → 1 ≤ size
   one_fewer is = omega (arith, size-b k.spotted is)
 
-  pub has_block : HasBlock text m h spot.newer.0
+  pub has_block : HasBlock text h spot.newer.0
   has_block =
       let r = k.spotted.stands.rule in
-      record { lent = k.lent; plan = plug k.frame k.before; contents = r.newer; held = k.spotted.held; inside = inside k.spotted r }
+      record { plan = plug k.frame k.before; contents = r.newer; held = k.spotted.held; inside = inside k.spotted r }
 
-  module _ (count : ℕ) (counts : (t b : Plan ℕ) → HeldIn text m h t → BlockIn spot.newer.0 b t → count ≡ cells b) where
+  module _ (count : ℕ) (counts : (t b : Plan ℕ) → HeldIn text h t → BlockIn spot.newer.0 b t → count ≡ cells b) where
     pub count_fewer : spot.which ≡ op_d → count + 2 ≤ size
     count_fewer is = omega (arith, size_d k.spotted count counts is)
 
     pub count_more : size + count ≤ 2 * cell_limit
     count_more =
-        let few = held_cells text m h (plug k.frame k.before) k.spotted.held in
-        omega (arith, count_less k.spotted count counts, k.spotted.sized, few, k.lent.few)
+        let few = held_cells text h (plug k.frame k.before) k.spotted.held in
+        omega (arith, count_less k.spotted count counts, k.spotted.sized, few, h.lent.few)

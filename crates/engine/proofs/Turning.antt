@@ -16,19 +16,17 @@ use Rattle.rules.proofs.Runs.{ask_go}
 use Rattle.memory.specs.Held.{HeldIn}
 use Rattle.memory.specs.declared.Held.{Held}
 use Rattle.hunt.specs.Hunting.{Finds, Huntable}
-use Rattle.ready.specs.declared.Hunted.{Hunted}
-use Rattle.ready.specs.declared.Hunted.TheVariants.{Nothing, Ready}
 use Rattle.ready.specs.declared.Spot.{Spot}
 use Rattle.rewrites.specs.Rules.{Rewritable, RewriteMade, Rewrites}
 use Rattle.engine.specs.Running.{Countable, Runnable, Sized, Spotted, TurnMade}
-use Rattle.engine.specs.declared.Turn.TheVariants.{Stopped, Went}
+use Rattle.std.specs.Prelude.{Option, None, Some}
+use Rattle.std.specs.declared.ops.ControlFlow.TheVariants.{Continue, Break}
 
-module _ {text m : List ℕ} {h : Held} {size : ℕ} (k : Runnable text m h size) where
+module _ {text : List ℕ} {h : Held} {size : ℕ} (k : Runnable text h size) where
   -- the hunt begins at the outermost sequence
-  pub huntable : Huntable text m h h.outer.0
+  pub huntable : Huntable text h h.outer.0
   huntable =
       record {
-        lent = k.lent;
         plan = k.plan;
         held = k.sized.held;
         awaits = record { frame = top; sequence = k.plan; ahead = ahead_top k.plan; cell = refl };
@@ -44,54 +42,54 @@ allowed true e = refl
 allowed false e = sym e
 
 -- what the hunt found
-module _ {text m : List ℕ} {h : Held} {size : ℕ} {r : Hunted} (finds : (t : Plan ℕ) → HeldIn text m h t → Finds r h.outer.0 t) where
-  pub turn-done : r ≡ Nothing → (more : Bool) → TurnMade text m h size more m (Stopped Done)
+module _ {text : List ℕ} {h : Held} {size : ℕ} {r : Option Spot} (finds : (t : Plan ℕ) → HeldIn text h t → Finds r h.outer.0 t) where
+  pub turn-done : r ≡ None → (more : Bool) → TurnMade text h size more h (Break Done)
   unfolding ask
   turn-done e more t s = (refl, rw (subst (λ x. Finds x h.outer.0 t) e (finds t s.held)))
 
-  module _ {spot : Spot} (e : r ≡ Ready spot) where
-    found : (t : Plan ℕ) → Sized text m h size t → Finds (Ready spot) h.outer.0 t
+  module _ {spot : Spot} (e : r ≡ Some spot) where
+    found : (t : Plan ℕ) → Sized text h size t → Finds (Some spot) h.outer.0 t
     found t s = subst (λ x. Finds x h.outer.0 t) e (finds t s.held)
 
-    spotted : (t : Plan ℕ) (s : Sized text m h size t) → Spotted text m h spot size (found t s).0 (found t s).1 (found t s).2
+    spotted : (t : Plan ℕ) (s : Sized text h size t) → Spotted text h spot size (found t s).0 (found t s).1 (found t s).2
     spotted t s =
         let (f, q, q', is, stands, then_next) = found t s in
-        record { held = subst (HeldIn text m h) is s.held; stands = stands; sized = s.sized ∙ ap cells is }
+        record { held = subst (HeldIn text h) is s.held; stands = stands; sized = s.sized ∙ ap cells is }
 
-    pub turn_countable : Runnable text m h size → Countable text m h spot size
+    pub turn_countable : Runnable text h size → Countable text h spot size
     turn_countable k =
         let there = found k.plan k.sized in
-        record { lent = k.lent; frame = there.0; before = there.1; after = there.2; spotted = spotted k.plan k.sized }
+        record { frame = there.0; before = there.1; after = there.2; spotted = spotted k.plan k.sized }
 
     -- the next plan's cells, as `size_after` counts them
-    module _ (after : ℕ) (counts : (f : Frame ℕ) (q q' : Plan ℕ) → Spotted text m h spot size f q q' → after ≡ cells (plug f q')) where
-      is_next : (t : Plan ℕ) (s : Sized text m h size t) → (next t ≡ some (plug (found t s).0 (found t s).2)) × (after ≡ cells (plug (found t s).0 (found t s).2))
+    module _ (after : ℕ) (counts : (f : Frame ℕ) (q q' : Plan ℕ) → Spotted text h spot size f q q' → after ≡ cells (plug f q')) where
+      is_next : (t : Plan ℕ) (s : Sized text h size t) → (next t ≡ some (plug (found t s).0 (found t s).2)) × (after ≡ cells (plug (found t s).0 (found t s).2))
       is_next t s = ((found t s).5, counts (found t s).0 (found t s).1 (found t s).2 (spotted t s))
 
-      pub turn_full : h.outer.0 < after → (more : Bool) → TurnMade text m h size more m (Stopped Full)
+      pub turn_full : h.outer.0 < after → (more : Bool) → TurnMade text h size more h (Break Full)
       unfolding ask
       turn_full over more t s =
           let (is, many) = is_next t s in
           (refl, rw (is, lt-leb (cells (plug (found t s).0 (found t s).2)) h.outer.0 (omega arith)))
 
       module _ (fits : after ≤ h.outer.0) where
-        goes : (t : Plan ℕ) (s : Sized text m h size t) → ask h.outer.0 (next t) ≡ GOES_ON (plug (found t s).0 (found t s).2)
+        goes : (t : Plan ℕ) (s : Sized text h size t) → ask h.outer.0 (next t) ≡ GOES_ON (plug (found t s).0 (found t s).2)
         goes t s = let (is, many) = is_next t s in (ask_go h.outer.0 (next t) (plug (found t s).0 (found t s).2)).1 (is, omega arith)
 
-        pub turn_quota : (more : Bool) → not more ≡ true → TurnMade text m h size more m (Stopped Quota)
+        pub turn_quota : (more : Bool) → not more ≡ true → TurnMade text h size more h (Break Quota)
         turn_quota more no_more t s = (refl, refused more no_more, (plug (found t s).0 (found t s).2, goes t s))
 
-        rewrites : (t : Plan ℕ) (s : Sized text m h size t) → Rewrites text m h spot (found t s).0 (found t s).1 (found t s).2
+        rewrites : (t : Plan ℕ) (s : Sized text h size t) → Rewrites text h spot (found t s).0 (found t s).1 (found t s).2
         rewrites t s =
             let p = spotted t s in
             record { held = p.held; stands = p.stands; room = let many = (is_next t s).1 in omega arith }
 
-        pub turn_rewritable : Runnable text m h size → Rewritable text m h spot
+        pub turn_rewritable : Runnable text h size → Rewritable text h spot
         turn_rewritable k =
             let there = found k.plan k.sized in
-            record { lent = k.lent; frame = there.0; before = there.1; after = there.2; rewrites = rewrites k.plan k.sized }
+            record { frame = there.0; before = there.1; after = there.2; rewrites = rewrites k.plan k.sized }
 
-        pub turn_went : {m' : List ℕ} {h' : Held} (more : Bool) → not more ≡ false → RewriteMade text m h spot m' h'
-            → TurnMade text m h size more m' (Went h' after)
+        pub turn_went : {h' : Held} (more : Bool) → not more ≡ false → RewriteMade text h spot h'
+            → TurnMade text h size more h' (Continue after)
         turn_went more is_more made t s =
             (allowed more is_more, (plug (found t s).0 (found t s).2, goes t s, made (found t s).0 (found t s).1 (found t s).2 (rewrites t s), (is_next t s).1))

@@ -12,7 +12,8 @@ use Rattle.plan.specs.declared.Operator.{Operator}
 use Rattle.rules.proofs.Windows.{Window, no_block, begin, none_ready, front_token, past_token, window_block}
 use Rattle.memory.specs.Held.{held_numbers}
 use Rattle.memory.specs.Memory.{start, close, datum, link, whole, ports, Says}
-use Rattle.memory.specs.Model.{Lent}
+use Rattle.memory.specs.Lent.{Lent}
+use Rattle.std.specs.Prelude.{Option, None, Some}
 use Rattle.memory.specs.Numbered.{kind_of}
 use Rattle.memory.specs.declared.Held.{Held}
 use Rattle.memory.specs.declared.Kind.{Kind}
@@ -23,8 +24,6 @@ use Rattle.blocks.proofs.Ways.{ahead, way_ahead, Way}
 use Rattle.hunt.specs.Hunting.{SequenceAt, Scannable, Scanned}
 use Rattle.ready.specs.Ready.{end_port, ready_at}
 use Rattle.ready.specs.declared.Spot.{Spot}
-use Rattle.ready.specs.declared.Hunted.{Hunted}
-use Rattle.ready.specs.declared.Hunted.TheVariants.{Nothing, Ready}
 use Rattle.hunt.proofs.WaysThrough.{way_sequence, way_skip}
 use Rattle.hunt.proofs.OnePlan.{one_inside}
 use Rattle.hunt.proofs.Window.{Seen, Tested, seen_token, seen_block, tested_operator}
@@ -42,19 +41,19 @@ pub record Scanning (text m : List ℕ) (n first stop last second third at : ℕ
   pub window : Window sequence y
   pub seen : Seen cell window last second third
 
-module _ {text m : List ℕ} {h : Held} {s : ℕ} (can : Scannable text m h s) where
+module _ {text : List ℕ} {h : Held} {s : ℕ} (can : Scannable text h s) where
   pub scan_small : s ≤ cell_limit
-  scan_small = omega (arith, can.there.low, can.lent.few)
+  scan_small = omega (arith, can.there.low, h.lent.few)
 
   pub scan_start : (last : ℕ) → last ≡ start s → last ≤ start h.outer.0
   scan_start last e = omega (arith, can.there.low)
 
-  pub scan_first : (stop last at : ℕ) → stop ≡ close s → last ≡ start s → at ≡ link (held_numbers m h) last
-      → Scanning text m h.outer.0 h.first.0 stop last last last at
+  pub scan_first : (stop last at : ℕ) → stop ≡ close s → last ≡ start s → at ≡ link (held_numbers h) last
+      → Scanning text h.numbers.now h.outer.0 h.first.0 stop last last last at
   unfolding begin ports
   scan_first stop last at e l a =
       rw (e, a, l) record {
-        lent = can.lent;
+        lent = h.lent;
         cell = s;
         ends = refl;
         sequence = can.sequence;
@@ -67,16 +66,16 @@ module _ {text m : List ℕ} {h : Held} {s : ℕ} (can : Scannable text m h s) w
       }
 
 -- what the test of an item gives: the walk goes on behind it; or the sequence's leftmost ready operator is there
-abbrev pub AfterTest : (text m : List ℕ) → (n first stop last second at : ℕ) → Kind → Hunted → Type 0
-AfterTest text m n first stop last second at kind Nothing =
+abbrev pub AfterTest : (text m : List ℕ) → (n first stop last second at : ℕ) → Kind → Option Spot → Type 0
+AfterTest text m n first stop last second at kind None =
     (last' at' : ℕ) → last' ≡ end_port kind at → at' ≡ link (whole n m first) last'
     → Scanning text m n first stop last' last second at'
     × (length (ahead (whole n m first) n stop at') < length (ahead (whole n m first) n stop at))
-AfterTest text m n first stop last second at kind (Ready spot) =
-    (s : ℕ) × (q : Plan ℕ) × (stop ≡ close s) × SequenceAt text n (whole n m first) s q × Scanned (Ready spot) s q
+AfterTest text m n first stop last second at kind (Some spot) =
+    (s : ℕ) × (q : Plan ℕ) × (stop ≡ close s) × SequenceAt text n (whole n m first) s q × Scanned (Some spot) s q
 
 -- what is found in the one sequence inside the cell is found in every one
-of_each : {text : List ℕ} {n : ℕ} {w : List ℕ} (r : Hunted) (s : ℕ) (q : Plan ℕ) (stop s' : ℕ) → stop ≡ close s → SequenceAt text n w s q
+of_each : {text : List ℕ} {n : ℕ} {w : List ℕ} (r : Option Spot) (s : ℕ) (q : Plan ℕ) (stop s' : ℕ) → stop ≡ close s → SequenceAt text n w s q
     → Scanned r s q → stop ≡ close s' → (q' : Plan ℕ) → SequenceAt text n w s' q' → Scanned r s' q'
 of_each {text} {n} {w} r s q stop s' e there found e' q' there' =
     let cell : s ≡ s' = omega arith in
@@ -140,14 +139,14 @@ module _ {text m : List ℕ} {n first stop last second third at : ℕ} (h : Scan
       let from : Way w n stop at (start c ∷ ports p) = subst (Way w n stop at) e way in
       onward y p (start c) way (way_skip [] (start c) (ports p) from) (omega (arith, ap length e)) says window seen last' at' (l ∙ from.leads.0) a
 
-  abbrev Then : Kind → Hunted → Type 0
+  abbrev Then : Kind → Option Spot → Type 0
   Then kind r = AfterTest text m n first stop last second at kind r
 
-  tested : (c : ℕ) (o : Operator) (p : Plan ℕ) (r : Hunted) → Way w n stop at (ports (operator c o p)) → Says text w p
+  tested : (c : ℕ) (o : Operator) (p : Plan ℕ) (r : Option Spot) → Way w n stop at (ports (operator c o p)) → Says text w p
       → Tested r h.cell h.sequence (start c) last second p → Then (OPERATOR o) r
   unfolding ports
-  tested c o p Nothing way says (window, seen) = pass_atom c (operator c o p) p refl way says window seen
-  tested c o p (Ready spot) way says found = (h.cell, h.sequence, h.ends, h.there, found)
+  tested c o p None way says (window, seen) = pass_atom c (operator c o p) p refl way says window seen
+  tested c o p (Some spot) way says found = (h.cell, h.sequence, h.ends, h.there, found)
 
   module _ (kind : Kind) (reads : kind ≡ kind_of (datum m at)) where
     told : (c number : ℕ) → at ≡ start c → datum w (start c) ≡ number → kind ≡ kind_of number
@@ -176,14 +175,14 @@ module _ {text m : List ℕ} {n first stop last second third at : ℕ} (h : Scan
     scan_item : Then kind (ready_at kind at last second third)
     scan_item = item h.y h.way h.says h.window h.seen
 
-    module _ (r : Hunted) (answers : r ≡ ready_at kind at last second third) where
-      pub scan_past : r ≡ Nothing → Then kind Nothing
+    module _ (r : Option Spot) (answers : r ≡ ready_at kind at last second third) where
+      pub scan_past : r ≡ None → Then kind None
       scan_past e = subst (Then kind) (sym answers ∙ e) scan_item
 
-      pub scan_found : (spot : Spot) → r ≡ Ready spot → (s : ℕ) → stop ≡ close s → (q : Plan ℕ) → SequenceAt text n w s q → Scanned (Ready spot) s q
+      pub scan_found : (spot : Spot) → r ≡ Some spot → (s : ℕ) → stop ≡ close s → (q : Plan ℕ) → SequenceAt text n w s q → Scanned (Some spot) s q
       scan_found spot e s c q there =
           let o = subst (Then kind) (sym answers ∙ e) scan_item in
-          of_each (Ready spot) o.0 o.1 stop s o.2 o.3 o.4 c q there
+          of_each (Some spot) o.0 o.1 stop s o.2 o.3 o.4 c q there
 
 -- at the stop no item is left, so none was ready
 none_left : {w : List ℕ} {n stop at : ℕ} (y : Plan ℕ) → Way w n stop at (ports y) → at ≡ stop → y ≡ end
@@ -194,7 +193,7 @@ none_left (token c t p) way e = absurd (way.once.0.0 (sym e ∙ way.leads.0))
 none_left (block c b p) way e = absurd (way.once.0.0 (sym e ∙ way.leads.0))
 
 pub scan_none : {text m : List ℕ} {n first stop last second third at : ℕ} → Scanning text m n first stop last second third at → at ≡ stop
-    → (s : ℕ) → stop ≡ close s → (q : Plan ℕ) → SequenceAt text n (whole n m first) s q → Scanned Nothing s q
+    → (s : ℕ) → stop ≡ close s → (q : Plan ℕ) → SequenceAt text n (whole n m first) s q → Scanned None s q
 scan_none {stop} h e s c q there =
     let left = subst (Window h.sequence) (none_left h.y h.way e) h.window in
-    of_each Nothing h.cell h.sequence stop s h.ends h.there (none_ready left) c q there
+    of_each None h.cell h.sequence stop s h.ends h.there (none_ready left) c q there

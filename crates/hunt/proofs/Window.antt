@@ -9,6 +9,7 @@ use native.Mathlib.Omega.{arith}
 use Rattle.plan.specs.Plan.{Plan, end, operator, token, block, ◌then◌}
 use Rattle.plan.specs.declared.Operator.{Operator}
 use Rattle.plan.specs.declared.Operator.TheVariants.{A as op_a, B as op_b, C as op_c, D as op_d}
+use Rattle.std.specs.Prelude.{Option, None, Some}
 use Rattle.rules.specs.Leftmost.{takes}
 use Rattle.rules.specs.Rewriting.{after_two, first_block}
 use Rattle.rules.proofs.Windows.{Front, Window, no_block, one_block, two_blocks, Ready as At, ready}
@@ -20,8 +21,6 @@ use Rattle.memory.proofs.Ports.{ports-then}
 use Rattle.hunt.specs.Hunting.{RuleAt, Scanned, Stands, port_behind}
 use Rattle.ready.specs.Ready.{ready_at, spot_at}
 use Rattle.ready.specs.declared.Spot.{Spot}
-use Rattle.ready.specs.declared.Hunted.{Hunted}
-use Rattle.ready.specs.declared.Hunted.TheVariants.{Nothing, Ready}
 use Rattle.ready.proofs.Tests.{two-there, second_missing, one-there, none_there}
 
 -- the last three ports: a block's close, which is odd, for each block at hand, and before those the port behind which they stand
@@ -57,22 +56,22 @@ module _ (s : ℕ) {q : Plan ℕ} where
   seen_block last second third (two_blocks l B m A h) k = (refl, k.0, k.1 ∙ sym (ends_in_block (start s) h.front l B))
 
 -- what the test of the operator at a port says: it is passed, and p is behind it; or it is ready
-abbrev pub Tested : Hunted → (s : ℕ) → (q : Plan ℕ) → (at last second : ℕ) → (p : Plan ℕ) → Type 0
-Tested Nothing s q at last second p = (w : Window q p) × Seen s w at last second
-Tested (Ready spot) s q at last second p = Scanned (Ready spot) s q
+abbrev pub Tested : Option Spot → (s : ℕ) → (q : Plan ℕ) → (at last second : ℕ) → (p : Plan ℕ) → Type 0
+Tested None s q at last second p = (w : Window q p) × Seen s w at last second
+Tested (Some spot) s q at last second p = Scanned (Some spot) s q
 
 module _ (s : ℕ) (q : Plan ℕ) (last second third c : ℕ) (p : Plan ℕ) where
-  abbrev Answer : Hunted → Type 0
+  abbrev Answer : Option Spot → Type 0
   Answer r = Tested r s q (start c) last second p
 
   module _ (o : Operator) where
-    abbrev test : Hunted
+    abbrev test : Option Spot
     test = ready_at (OPERATOR o) (start c) last second third
 
-    not_ready : Nothing ≡ test → Front q (operator c o p) → Answer test
+    not_ready : None ≡ test → Front q (operator c o p) → Answer test
     not_ready e h = subst Answer e (no_block (past_operator h), seen_operator s h last second)
 
-    is_ready : {l m before : ℕ} {X : Plan ℕ} → Ready (spot_at o (start c) last second before) ≡ test → before ≡ port_behind s X → last / 2 ≡ m
+    is_ready : {l m before : ℕ} {X : Plan ℕ} → Some (spot_at o (start c) last second before) ≡ test → before ≡ port_behind s X → last / 2 ≡ m
         → second / 2 ≡ l → At o l m c X p q → Answer test
     is_ready {X} e at newer older h =
         let self : start c / 2 ≡ c = omega arith in

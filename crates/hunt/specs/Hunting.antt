@@ -1,7 +1,7 @@
 -- What a hunt for a ready operator finds in a plan in the memory: where the operator stands, and which plan its rewrite gives. A scan
 -- answers for one sequence (`Scanned`), a hunt for a plan (`Finds`). What they answer is what document 01's order chooses: `outer` of a
 -- sequence, `next` of a plan. Last come the tests that the code makes at a port.
-use Rattle.std.specs.Prelude.{ℕ, ◌≤◌, ◌≡◌, List, [], ◌∷◌, ◌++◌}
+use Rattle.std.specs.Prelude.{ℕ, ◌≤◌, ◌≡◌, List, [], ◌∷◌, ◌++◌, Option, None, Some}
 use Rattle.std.specs.Prelude.{None as none, Some as some}
 use Rattle.rules.specs.Frames.{Frame, top, within, plug, Ahead, Rule}
 use Rattle.plan.specs.Plan.{Plan, labels}
@@ -9,11 +9,8 @@ use Rattle.plan.specs.declared.Operator.{Operator}
 use Rattle.rules.specs.Rewriting.{leftmost, next}
 use Rattle.memory.specs.Held.{HeldIn, held_numbers}
 use Rattle.memory.specs.Memory.{start, close, ports, Linked, Says, Below, Distinct, last_of}
-use Rattle.memory.specs.Model.{Lent}
 use Rattle.memory.specs.declared.Held.{Held}
 use Rattle.ready.specs.declared.Spot.{Spot}
-use Rattle.ready.specs.declared.Hunted.{Hunted}
-use Rattle.ready.specs.declared.Hunted.TheVariants.{Nothing, Ready}
 
 -- the cell that has the sequence inside it: cell number n for the outermost one
 abbrev pub cell_of : (n : ℕ) → Frame ℕ → ℕ
@@ -43,20 +40,19 @@ pub record SequenceAt (text : List ℕ) (n : ℕ) (w : List ℕ) (s : ℕ) (q : 
   pub below : Below n (labels q)
   pub low : s ≤ n
 
-pub record Scannable (text m : List ℕ) (h : Held) (s : ℕ) : Type 0 where
-  pub lent : Lent h.outer.0 m
+pub record Scannable (text : List ℕ) (h : Held) (s : ℕ) : Type 0 where
   pub sequence : Plan ℕ
-  pub there : SequenceAt text h.outer.0 (held_numbers m h) s sequence
+  pub there : SequenceAt text h.outer.0 (held_numbers h) s sequence
 
 -- of one sequence: no operator of it is ready; or the leftmost ready one is at the spot
-abbrev pub Scanned : Hunted → (s : ℕ) → (q : Plan ℕ) → Type 0
-Scanned Nothing s q = leftmost q ≡ none
-Scanned (Ready spot) s q = (q' : Plan ℕ) × Stands spot s q q' × (leftmost q ≡ some q')
+abbrev pub Scanned : Option Spot → (s : ℕ) → (q : Plan ℕ) → Type 0
+Scanned None s q = leftmost q ≡ none
+Scanned (Some spot) s q = (q' : Plan ℕ) × Stands spot s q q' × (leftmost q ≡ some q')
 
 -- of a plan: it is finished; or its next rewrite is the one at the spot, in one of its sequences
-abbrev pub Finds : Hunted → (n : ℕ) → (t : Plan ℕ) → Type 0
-Finds Nothing n t = next t ≡ none
-Finds (Ready spot) n t =
+abbrev pub Finds : Option Spot → (n : ℕ) → (t : Plan ℕ) → Type 0
+Finds None n t = next t ≡ none
+Finds (Some spot) n t =
     (f : Frame ℕ) × (q : Plan ℕ) × (q' : Plan ℕ) × (t ≡ plug f q) × Stands spot (cell_of n f) q q' × (next t ≡ some (plug f q'))
 
 -- The sequence inside the cell `from` is the first that may have a ready operator: the plan's next rewrite is in
@@ -68,8 +64,7 @@ pub record Awaits (n : ℕ) (t : Plan ℕ) (from : ℕ) : Type 0 where
   pub cell : from ≡ cell_of n frame
 
 -- the memory holds a plan whose first sequence that may have a ready operator is inside the cell `from`
-pub record Huntable (text m : List ℕ) (h : Held) (from : ℕ) : Type 0 where
-  pub lent : Lent h.outer.0 m
+pub record Huntable (text : List ℕ) (h : Held) (from : ℕ) : Type 0 where
   pub plan : Plan ℕ
-  pub held : HeldIn text m h plan
+  pub held : HeldIn text h plan
   pub awaits : Awaits h.outer.0 plan from

@@ -10,52 +10,46 @@ ghost use Rattle.memory.specs.Memory.{start};
 ghost use Rattle.hunt.specs.Hunting.{Finds, Huntable, Scannable, Scanned, SequenceAt};
 
 use kinds::Cell;
-use memory::{Held, Port, kind_at, link_of};
-use ready::{Hunted, block_opens, end_port, ready_at};
+use memory::{Held, Port};
+use ready::{Spot, block_opens, end_port, ready_at};
 
 // The leftmost ready operator of the sequence inside a cell.
-pub fn scan(text: &[u8], memory: &[u32], held: Held, sequence: Cell) -> Hunted
-    requires { Scannable text.now memory.now held sequence.0 }
-    ensures { (q : Plan ℕ) → SequenceAt text.now held.outer.0 (held_numbers memory.now held) sequence.0 q → Scanned result sequence.0 q }
+pub fn scan(text: &[u8], held: &Held, sequence: Cell) -> Option<Spot>
+    requires { Scannable text.now held.now sequence.0 }
+    ensures { (q : Plan ℕ) → SequenceAt text.now held.now.outer.0 (held_numbers held.now) sequence.0 q → Scanned result sequence.0 q }
 {
-    let outer = held.outer;
-    let first = held.first;
     let end = Port::close(sequence);
     let mut third = Port::start(sequence);
     let mut second = third;
     let mut last = third;
-    let mut at = link_of(memory, outer, first, last);
-    while at.0 != end.0 {
-        let kind = kind_at(memory, at);
-        match ready_at(kind, at, last, second, third) {
-            Hunted::Ready(spot) => return Hunted::Ready(spot),
-            Hunted::Nothing => {}
+    let mut at = held.link_of(last);
+    while at != end {
+        let kind = held.kind_at(at);
+        if let Some(spot) = ready_at(kind, at, last, second, third) {
+            return Some(spot);
         }
         third = second;
         second = last;
         last = end_port(kind, at);
-        at = link_of(memory, outer, first, last);
+        at = held.link_of(last);
     }
-    Hunted::Nothing
+    None
 }
 
 // The next ready operator of the plan, from the sequence inside a cell on. Nothing before that sequence is ready.
-pub fn hunt(text: &[u8], memory: &[u32], held: Held, from: Cell) -> Hunted
-    requires { Huntable text.now memory.now held from.0 }
-    ensures { (t : Plan ℕ) → HeldIn text.now memory.now held t → Finds result held.outer.0 t }
+pub fn hunt(text: &[u8], held: &Held, from: Cell) -> Option<Spot>
+    requires { Huntable text.now held.now from.0 }
+    ensures { (t : Plan ℕ) → HeldIn text.now held.now t → Finds result held.now.outer.0 t }
 {
-    let outer = held.outer;
-    let first = held.first;
-    let end = Port::close(outer);
+    let end = Port::close(held.outer);
     let mut port = Port::start(from);
-    while port.0 != end.0 {
-        if block_opens(memory, outer, first, port) {
-            match scan(text, memory, held, port.cell()) {
-                Hunted::Ready(spot) => return Hunted::Ready(spot),
-                Hunted::Nothing => {}
+    while port != end {
+        if block_opens(held, port) {
+            if let Some(spot) = scan(text, held, port.cell()) {
+                return Some(spot);
             }
         }
-        port = link_of(memory, outer, first, port);
+        port = held.link_of(port);
     }
-    Hunted::Nothing
+    None
 }

@@ -6,23 +6,24 @@ ghost use Rattle.kinds.specs.Limits.{text_limit, token_limit};
 ghost use Rattle.plan.specs.Plan.{Plan};
 ghost use Rattle.plan.specs.Reading.{ACCEPTED, read};
 ghost use Rattle.memory.specs.Held.{HeldAlike};
-ghost use Rattle.memory.specs.Model.{Lent, Aside};
+ghost use Rattle.memory.specs.Lent.{Lent};
 
 use builder::{end_plan, fresh, put_piece};
 use items::{Placed, Walk};
 use kinds::Cell;
 use memory::Held;
 
-// The plan of the text, in the cells of the memory.
-pub fn build_plan(text: &[u8], memory: &mut [u32], outer: Cell) -> Held
-    requires { Lent outer.0 memory.old × (length text.now ≤ text_limit) × ((p : Plan ℕ) × (read token_limit outer.0 text.now ≡ ACCEPTED p)) }
-    ensures holds { (p : Plan ℕ) → read token_limit outer.0 text.now ≡ ACCEPTED p → HeldAlike text.now memory.new result p }
+// The plan of the text, in the cells lent.
+pub fn build_plan<'a>(text: &[u8], numbers: &'a mut [u32], outer: Cell) -> Held<'a>
+    requires { Lent outer.0 numbers.old × (length text.now ≤ text_limit) × ((p : Plan ℕ) × (read token_limit outer.0 text.now ≡ ACCEPTED p)) }
+    ensures holds { (p : Plan ℕ) → read token_limit outer.0 text.now ≡ ACCEPTED p → HeldAlike text.now result p }
     ensures same_cells { result.outer ≡ outer }
-    ensures aside { Aside outer.0 memory.old memory.new }
+    ensures same_numbers { result.numbers.ghost_name ≡ numbers.entry.ghost_name }
 {
-    let mut build = fresh(memory, outer);
+    let mut held = fresh(numbers, outer);
     for Placed { piece, .. } in Walk::over(text) {
-        build = put_piece(memory, build, piece);
+        put_piece(&mut held, piece);
     }
-    end_plan(memory, build)
+    end_plan(&mut held);
+    held
 }

@@ -3,7 +3,7 @@ pub mod Beginning
 pub mod Beside
 pub mod BlockInPlan
 pub mod Building
-pub mod Clearing
+pub mod Compared
 pub mod Freeing
 pub mod Lists
 pub mod Numbered

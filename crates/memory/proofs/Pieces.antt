@@ -13,7 +13,7 @@ use Rattle.kinds.specs.declared.Token.{Token as TextToken}
 use Rattle.plan.specs.declared.Operator.{Operator as PlanOperator}
 use Rattle.pieces.specs.declared.Piece.TheVariants.{Operator, Token, Open, Close}
 use Rattle.memory.specs.Memory.{start, datum, whole, token_at}
-use Rattle.memory.specs.Model.{Lent}
+use Rattle.memory.specs.Lent.{Lent}
 use Rattle.memory.specs.Numbered.{kind_of}
 use Rattle.memory.specs.Pieces.{piece_at}
 use Rattle.memory.specs.declared.Kind.{Kind}

@@ -16,7 +16,7 @@ use Rattle.pieces.specs.Written.{InText, piece_bytes, piece_length}
 use Rattle.pieces.specs.declared.Piece.{Piece}
 use Rattle.pieces.proofs.Pieces.{is_in_text, length-piece}
 use Rattle.memory.specs.Memory.{start, close, link, whole, ports, Linked, Below, Absent}
-use Rattle.memory.specs.Model.{Lent}
+use Rattle.memory.specs.Lent.{Lent}
 use Rattle.memory.specs.Pieces.{piece_at, Shown, PrintsWithin}
 use Rattle.memory.specs.declared.Held.{Held}
 use Rattle.memory.proofs.Along.{along, along_leads, LeadsAlong}
@@ -55,7 +55,10 @@ ahead m n first port = along (whole n m first) (close n) (2 * n) port
 abbrev pub printed_ahead : (text m : List ℕ) → (n first port : ℕ) → List ℕ
 printed_ahead text m n first port = printed_ports text (whole n m first) (ahead m n first port)
 
-module _ (text m : List ℕ) (h : Held) (lent : Lent h.outer.0 m) (t : Plan ℕ) (held : HeldIn text m h t) where
+module _ (text : List ℕ) (h : Held) (t : Plan ℕ) (held : HeldIn text h t) where
+  abbrev m : List ℕ
+  m = h.numbers.now
+
   abbrev n : ℕ
   n = h.outer.0
 
@@ -64,7 +67,7 @@ module _ (text m : List ℕ) (h : Held) (lent : Lent h.outer.0 m) (t : Plan ℕ)
 
   held_chain : Chain text (whole n m first) n first (ports t)
   held_chain =
-      subst (λ p. Chain text (whole n m first) n p (ports t)) (sym (first-whole n m first lent (start n) refl))
+      subst (λ p. Chain text (whole n m first) n p (ports t)) (sym (first-whole n m first h.lent (start n) refl))
       (linked_chain text (whole n m first) n (start n) (ports t) (pieces t) held.chain
       (below_ports n t (below_split n (labels t) held.shared.spare held.shared.below).0) (chain_shows text (whole n m first) t held.says))
 
@@ -87,14 +90,15 @@ pub record PrintWalk (from room : ℕ) (text m : List ℕ) (n first port put : �
   pub within : put ≤ length (printed_ahead text m n first first)
   pub so_far : printed_ahead text m n first port ≡ drop put (printed_ahead text m n first first)
 
-pub walk_first : (from room : ℕ) (text m : List ℕ) (h : Held) → PrintsWithin from room text m h → PrintWalk from room text m h.outer.0 h.first.0 h.first.0 0
-walk_first from room text m h p =
-    let e = held_ahead text m h p.lent p.plan p.held in
+pub walk_first : (from room : ℕ) (text : List ℕ) (h : Held) → PrintsWithin from room text h
+    → PrintWalk from room text h.numbers.now h.outer.0 h.first.0 h.first.0 0
+walk_first from room text h p =
+    let e = held_ahead text h p.plan p.held in
     record {
-      lent = p.lent;
-      chain = rw e (held_chain text m h p.lent p.plan p.held);
-      few = rw e (held_few text m h p.lent p.plan p.held);
-      fits = rw (held_prints text m h p.lent p.plan p.held) p.fits;
+      lent = h.lent;
+      chain = rw e (held_chain text h p.plan p.held);
+      few = rw e (held_few text h p.plan p.held);
+      fits = rw (held_prints text h p.plan p.held) p.fits;
       within = omega arith;
       so_far = refl;
     }
@@ -189,7 +193,7 @@ module _ (from room : ℕ) (text m : List ℕ) (n first port put : ℕ) (walk : 
       }
 
 -- at the end mark the walk has put the whole printed text, of every plan that the memory holds
-pub walk_end : (from room : ℕ) (text m : List ℕ) (h : Held) (port put : ℕ) → PrintWalk from room text m h.outer.0 h.first.0 port put
-    → (stop : ℕ) → stop ≡ close h.outer.0 → port ≡ stop → (t : Plan ℕ) → HeldIn text m h t → put ≡ length (print t)
-walk_end from room text m h port put walk stop mark e t held =
-    ended from room text m h.outer.0 h.first.0 port put walk (e ∙ mark) ∙ ap length (held_prints text m h walk.lent t held)
+pub walk_end : (from room : ℕ) (text : List ℕ) (h : Held) (port put : ℕ) → PrintWalk from room text h.numbers.now h.outer.0 h.first.0 port put
+    → (stop : ℕ) → stop ≡ close h.outer.0 → port ≡ stop → (t : Plan ℕ) → HeldIn text h t → put ≡ length (print t)
+walk_end from room text h port put walk stop mark e t held =
+    ended from room text h.numbers.now h.outer.0 h.first.0 port put walk (e ∙ mark) ∙ ap length (held_prints text h t held)

@@ -27,10 +27,10 @@ pub record Putting (text m out₀ : List ℕ) (from : ℕ) (out : List ℕ) (n f
   pub walk : PrintWalk from (length out₀) text m n first port done
   pub holds : out ≡ put_at out₀ from (take done (printed_ahead text m n first first))
 
-pub put_first : (text m out : List ℕ) (h : Held) (from : ℕ) → PrintsWithin from (length out) text m h
-    → Putting text m out from out h.outer.0 h.first.0 h.first.0 from
-put_first text m out h from w =
-    record { done = 0; at = sym (add-zero from); walk = walk_first from (length out) text m h w; holds = sym (put_nothing out from) }
+pub put_first : (text out : List ℕ) (h : Held) (from : ℕ) → PrintsWithin from (length out) text h
+    → Putting text h.numbers.now out from out h.outer.0 h.first.0 h.first.0 from
+put_first text out h from w =
+    record { done = 0; at = sym (add-zero from); walk = walk_first from (length out) text h w; holds = sym (put_nothing out from) }
 
 module _ (text m out₀ : List ℕ) (from : ℕ) (out : List ℕ) (n first port put : ℕ) (inv : Putting text m out₀ from out n first port put) where
   abbrev gone : List ℕ
@@ -71,8 +71,9 @@ module _ (text m out₀ : List ℕ) (from : ℕ) (out : List ℕ) (n first port 
             holds = is_put ∙ rw (there, inv.holds, both) (put_behind out₀ from gone so_far (piece_bytes text piece));
           }
 
-pub put_last : (text m out₀ : List ℕ) (from : ℕ) (out : List ℕ) (h : Held) (port put : ℕ) → Putting text m out₀ from out h.outer.0 h.first.0 port put
-    → (stop : ℕ) → stop ≡ close h.outer.0 → port ≡ stop → (t : Plan ℕ) → HeldIn text m h t → out ≡ put_at out₀ from (print t)
-put_last text m out₀ from out h port put inv stop mark e t held =
+pub put_last : (text out₀ : List ℕ) (from : ℕ) (out : List ℕ) (h : Held) (port put : ℕ)
+    → Putting text h.numbers.now out₀ from out h.outer.0 h.first.0 port put
+    → (stop : ℕ) → stop ≡ close h.outer.0 → port ≡ stop → (t : Plan ℕ) → HeldIn text h t → out ≡ put_at out₀ from (print t)
+put_last text out₀ from out h port put inv stop mark e t held =
     inv.holds
-    ∙ rw (ended from (length out₀) text m h.outer.0 h.first.0 port inv.done inv.walk (e ∙ mark), take-length, held_prints text m h inv.walk.lent t held)
+    ∙ rw (ended from (length out₀) text h.numbers.now h.outer.0 h.first.0 port inv.done inv.walk (e ∙ mark), take-length, held_prints text h t held)

@@ -1,21 +1,18 @@
 -- What is being built is always ready for the builder's next step.
 use Prim.Native.Nat.{ℕ, ◌≤◌, ◌<◌}
-use mathlib.Core.Path.{◌≡◌, sym, subst}
+use mathlib.Core.Path.{◌≡◌, refl, ap, ◌∙◌}
 use mathlib.Core.List.{List, ◌∷◌, ◌++◌}
 use native.Mathlib.Omega.{arith}
+use Rattle.kinds.specs.declared.Cell.{Cell}
 use Rattle.plan.specs.Plan.{Plan, labels}
 use Rattle.plan.specs.Reading.{Around, outermost, inside}
 use Rattle.plan.specs.Pieces.{seen}
 use Rattle.memory.specs.Memory.{Building}
-use Rattle.memory.specs.Model.{Lent, Buildable, Model, Built, Stepped, model}
-use Rattle.memory.specs.declared.Build.{Build}
+use Rattle.memory.specs.Held.{SameCells}
+use Rattle.memory.specs.Model.{Buildable, Built, Model, Stepped, model}
+use Rattle.memory.specs.declared.Held.{Held}
 use Rattle.memory.proofs.Building.{root_low, tail_within}
 use Rattle.memory.proofs.Lists.{below_split}
-use Rattle.memory.proofs.Whole.{lent-kept}
-
--- a step leaves the memory as long as it was
-pub still_lent : {m : List ℕ} {b : Build} {m' : List ℕ} {b' : Build} {s : Model} {n : ℕ} → Stepped m b m' b' s → Lent n m → Lent n m'
-still_lent p lent = lent-kept lent p.aside.as_long
 
 pub opened-lent : {text : List ℕ} {n : ℕ} {w : List ℕ} {root : ℕ} {others : List ℕ} {tail opened free c : ℕ} {before here : Plan ℕ} {out : Around}
     → Building text n w root others tail opened free (inside c before out) here → opened < n
@@ -33,10 +30,24 @@ opened_low outermost b =
     let low = root_low b in omega arith
 opened_low (inside c before out) b = let low = opened-lent b in omega arith
 
-pub building_ready : {m : List ℕ} {b : Build} {n : ℕ} {text : List ℕ} {root : ℕ} {others : List ℕ} {out : Around} {here : Plan ℕ} → b.outer.0 ≡ n → Lent n m
-    → Built text n (model m b) root others out here → Buildable m b
-building_ready {m} {out = out} e lent h =
+pub building_ready : {b : Held} {n : ℕ} {text : List ℕ} {root : ℕ} {others : List ℕ} {out : Around} {here : Plan ℕ} → b.outer.0 ≡ n
+    → Built text n (model b) root others out here → Buildable b
+building_ready {out = out} e h =
     let within = tail_within h in
     let room = h.shared.room in
     let low = opened_low out h in
-    record { lent = subst (λ k. Lent k m) (sym e) lent; tail = omega arith; opened = omega arith }
+    record { tail = omega arith; opened = omega arith }
+
+-- one step after the other
+
+pub same_at : {h : Held} → SameCells h h
+same_at = record { outer = refl; lent = refl }
+
+pub same_on : {h h₁ h₂ : Held} → SameCells h h₁ → SameCells h₁ h₂ → SameCells h h₂
+same_on p q = record { outer = q.outer ∙ p.outer; lent = q.lent ∙ p.lent }
+
+pub cells_same : {h h' : Held} → SameCells h h' → h'.outer.0 ≡ h.outer.0
+cells_same p = ap (λ (c : Cell). c.0) p.outer
+
+pub stepped_on : {h h₁ h₂ : Held} {s : Model} (F : Model → Model) → Stepped h h₁ s → Stepped h₁ h₂ (F (model h₁)) → Stepped h h₂ (F s)
+stepped_on F p q = record { steps = q.steps ∙ ap F p.steps; same = same_on p.same q.same }

@@ -1,23 +1,28 @@
--- What is kept beside the numbers of a plan that is whole: the cell that is not lent, the first port, the first free cell.
+-- A plan that is whole in the numbers lent, with what is kept beside them: the cell that is not lent, the first port, the first free cell.
 -- And where a block stands in such a plan.
 use Rattle.std.specs.Prelude.{ℕ, ◌≡◌, ◌⊎◌, List}
 use Rattle.plan.specs.Plan.{Plan, end, operator, token, block, bare}
 use Rattle.memory.specs.Memory.{Holds, whole}
 use Rattle.memory.specs.declared.Held.{Held}
 
--- the numbers of the memory m with what is kept beside it
-abbrev pub held_numbers : List ℕ → Held → List ℕ
-held_numbers m h = whole h.outer.0 m h.first.0
+-- the numbers lent, with the link that is kept beside them
+abbrev pub held_numbers : Held → List ℕ
+held_numbers h = whole h.outer.0 h.numbers.now h.first.0
 
--- the memory m, with what is kept beside it, holds the plan t
-abbrev pub HeldIn : (text m : List ℕ) → Held → Plan ℕ → Type 0
-HeldIn text m h t = Holds text h.outer.0 (held_numbers m h) h.free.0 t
+-- the cells are the same, and so are the numbers lent for them
+pub record SameCells (h h' : Held) : Type 0 where
+  pub outer : h'.outer ≡ h.outer
+  pub lent : h'.numbers.ghost_name ≡ h.numbers.ghost_name
+
+-- the memory holds the plan t
+abbrev pub HeldIn : (text : List ℕ) → Held → Plan ℕ → Type 0
+HeldIn text h t = Holds text h.outer.0 (held_numbers h) h.free.0 t
 
 -- the memory holds the plan, except for its cells
-pub record HeldAlike (text m : List ℕ) (h : Held) (p : Plan ℕ) : Type 0 where
+pub record HeldAlike (text : List ℕ) (h : Held) (p : Plan ℕ) : Type 0 where
   pub plan : Plan ℕ
   pub alike : bare plan ≡ bare p
-  pub held : HeldIn text m h plan
+  pub held : HeldIn text h plan
 
 -- somewhere in the plan t, at any depth, the block at the cell c has the contents b
 abbrev pub BlockIn : (c : ℕ) → (b t : Plan ℕ) → Type 0

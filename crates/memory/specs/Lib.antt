@@ -1,4 +1,5 @@
 pub mod Held
+pub mod Lent
 pub mod Memory
 pub mod Model
 pub mod Numbered

@@ -3,12 +3,12 @@
 // `Cell` that it keeps, and a token as a `Token` with its `Place` in the text.
 #![tactic(auto)]
 
-ghost use Rattle.std.specs.Prelude.{◌≡◌, ℕ, ◌+◌, ◌*◌, ◌/◌, ◌%◌, ◌<◌, ◌≤◌, eqb, length, set};
+ghost use Rattle.std.specs.Prelude.{◌≡◌, ◌+◌, ◌*◌, ◌/◌, ◌%◌, ◌<◌, ◌≤◌, eqb, length, set};
 ghost use Rattle.kinds.specs.Limits.{cell_limit, cell_numbers};
 ghost use Rattle.plan.specs.Outcomes.{cleared};
-ghost use Rattle.memory.specs.Memory.{start, close, datum, link, whole, token_at};
+ghost use Rattle.memory.specs.Lent.{Lent};
+ghost use Rattle.memory.specs.Memory.{start, close, datum, link, token_at};
 ghost use Rattle.memory.specs.Numbered.{kind_number, kind_of};
-ghost use Rattle.memory.specs.Model.{Lent, Aside};
 
 use kinds::{Cell, Place, Token};
 use pieces::{operator_number, operator_of};
@@ -16,10 +16,8 @@ use plan::Operator;
 
 mod print;
 
-pub use print::{piece_at, print_into, printed_length};
-
 // A port of a cell: its start, or its close.
-#[derive(Clone, Copy)]
+#[derive(Clone, Copy, PartialEq, Eq)]
 pub struct Port(pub u32);
 
 impl Port {
@@ -59,20 +57,23 @@ pub enum Kind {
 }
 
 // A kind is stored as its number, and told by it, in these two functions alone.
-impl Kind {
-    pub fn number(self) -> u32
-        ensures { result ≡ kind_number self }
-    {
-        match self {
+
+impl From<Kind> for u32 {
+    ghost from_gives = { λ kind number. number ≡ kind_number kind };
+
+    fn from(kind: Kind) -> u32 {
+        match kind {
             Kind::Operator(which) => operator_number(which),
             Kind::Token => 4,
             Kind::Block => 5,
         }
     }
+}
 
-    pub fn of(number: u32) -> Kind
-        ensures { result ≡ kind_of number }
-    {
+impl From<u32> for Kind {
+    ghost from_gives = { λ number kind. kind ≡ kind_of number };
+
+    fn from(number: u32) -> Kind {
         match number {
             4 => Kind::Token,
             5 => Kind::Block,
@@ -81,112 +82,104 @@ impl Kind {
     }
 }
 
-// A plan that is being built: the cell that is not lent, whose inside is the outermost sequence; the first port of that sequence; the last
-// port so far; the innermost open block; the first free cell.
-#[derive(Clone, Copy)]
-pub struct Build {
+// Sets every number to 0.
+#[tactic(auto, unfolding(plan::specs::Outcomes::cleared))]
+pub fn clear(memory: &mut [u32])
+    ensures { memory.new ≡ cleared memory.old }
+{
+    memory.fill(0);
+}
+
+// A plan in the memory: the numbers lent, four for each cell; the cell that is not lent, whose inside is the outermost sequence; the first
+// port of that sequence, which is kept beside the numbers; and the first free cell. Where a sequence is built, `tail` is its last port so
+// far, and `opened` its innermost open block.
+#[derive(Drop)]
+pub struct Held<'a> {
+    pub numbers: &'a mut [u32],
     pub outer: Cell,
     pub first: Port,
     pub tail: Port,
     pub opened: Cell,
     pub free: Cell,
+    pub ghost lent: { Lent outer.0 numbers.now },
 }
 
-// A plan in the memory: the cell that is not lent, the first port of the outermost sequence, the first free cell.
-#[derive(Clone, Copy)]
-pub struct Held {
-    pub outer: Cell,
-    pub first: Port,
-    pub free: Cell,
-}
+impl Held<'_> {
+    ghost use Rattle.memory.specs.Held.{held_numbers};
+    ghost use Rattle.memory.specs.Model.{Stepped, model, with_numbers};
 
-// Sets every number to 0.
-pub fn clear(memory: &mut [u32])
-    ensures { memory.new ≡ cleared memory.old }
-{
-    let mut at = 0;
-    while at < memory.len() {
-        memory[at] = 0;
-        at += 1;
+    // The kind that the datum of a start says.
+    pub fn kind_at(&self, port: Port) -> Kind
+        requires { 2 * port.0 < length self.now.numbers.now }
+        ensures { result ≡ kind_of (datum self.now.numbers.now port.0) }
+    {
+        Kind::from(self.numbers[2 * port.0 as usize])
     }
-}
 
-// The kind that the datum of a start says.
-pub fn kind_at(memory: &[u32], port: Port) -> Kind
-    requires { 2 * port.0 < length memory.now }
-    ensures { result ≡ kind_of (datum memory.now port.0) }
-{
-    let number = 2 * port.0 as usize;
-    Kind::of(memory[number])
-}
-
-// The number in the link of a port of a lent cell.
-fn link_number(memory: &[u32], outer: Cell, port: Port) -> u32
-    requires { Lent outer.0 memory.now × (port.0 < start outer.0) }
-    ensures { (first : ℕ) → result ≡ link (whole outer.0 memory.now first) port.0 }
-{
-    let number = 2 * port.0 as usize + 1;
-    memory[number]
-}
-
-fn set_link_number(memory: &mut [u32], outer: Cell, port: Port, value: u32)
-    requires { Lent outer.0 memory.old × (port.0 < start outer.0) }
-    ensures stored { (first : ℕ) → whole outer.0 memory.new first ≡ set (whole outer.0 memory.old first) (2 * port.0 + 1) value }
-    ensures aside { Aside outer.0 memory.old memory.new }
-{
-    let slot = 2 * port.0 as usize + 1;
-    memory[slot] = value;
-}
-
-// Where the link of a port leads; that of the outermost start is kept beside the memory.
-pub fn link_of(memory: &[u32], outer: Cell, first: Port, port: Port) -> Port
-    requires { Lent outer.0 memory.now × (port.0 ≤ start outer.0) }
-    ensures { result.0 ≡ link (whole outer.0 memory.now first.0) port.0 }
-{
-    if port.0 == 2 * outer.0 {
-        return first;
+    // The token that starts at a port: its cell's second pair of numbers is its place and its length.
+    pub fn token_at(&self, port: Port) -> Token
+        requires { 2 * port.0 + cell_numbers ≤ length self.now.numbers.now }
+        ensures { result ≡ token_at self.now.numbers.now port.0 }
+    {
+        let number = 2 * (port.0 as usize + 1);
+        Token {
+            at: Place(self.numbers[number]),
+            len: self.numbers[number + 1],
+        }
     }
-    Port(link_number(memory, outer, port))
-}
 
-// Lets a port link to another, and answers the first port afterwards.
-pub fn set_link(memory: &mut [u32], outer: Cell, first: Port, port: Port, to: Port) -> Port
-    requires { Lent outer.0 memory.old × (port.0 ≤ start outer.0) }
-    ensures linked { whole outer.0 memory.new result.0 ≡ set (whole outer.0 memory.old first.0) (2 * port.0 + 1) to.0 }
-    ensures aside { Aside outer.0 memory.old memory.new }
-{
-    if port.0 == 2 * outer.0 {
-        return to;
+    // The number in the link of a port of a lent cell.
+    fn link_number(&self, port: Port) -> u32
+        requires { port.0 < start self.now.outer.0 }
+        ensures { result ≡ link (held_numbers self.now) port.0 }
+    {
+        self.numbers[2 * port.0 as usize + 1]
     }
-    set_link_number(memory, outer, port, to.0);
-    first
-}
 
-// The cell that a port keeps where its link leads nowhere. The start of a free cell keeps the next free one. The close
-// of an open block keeps the cell around it.
-pub fn kept_cell(memory: &[u32], outer: Cell, port: Port) -> Cell
-    requires { Lent outer.0 memory.now × (port.0 < start outer.0) }
-    ensures { (first : ℕ) → result.0 ≡ link (whole outer.0 memory.now first) port.0 }
-{
-    Cell(link_number(memory, outer, port))
-}
+    // Stores a number of a lent cell.
+    pub fn set_number(&mut self, number: usize, value: u32)
+        requires { number < cell_numbers * self.old.outer.0 }
+        ensures { Stepped self.old self.new (with_numbers (model self.old) (set (held_numbers self.old) number value)) }
+    {
+        self.numbers[number] = value;
+    }
 
-pub fn keep_cell(memory: &mut [u32], outer: Cell, port: Port, cell: Cell)
-    requires { Lent outer.0 memory.old × (port.0 < start outer.0) }
-    ensures kept { (first : ℕ) → whole outer.0 memory.new first ≡ set (whole outer.0 memory.old first) (2 * port.0 + 1) cell.0 }
-    ensures aside { Aside outer.0 memory.old memory.new }
-{
-    set_link_number(memory, outer, port, cell.0);
-}
+    // Where the link of a port leads; that of the outermost start is kept beside the numbers.
+    pub fn link_of(&self, port: Port) -> Port
+        requires { port.0 ≤ start self.now.outer.0 }
+        ensures { result.0 ≡ link (held_numbers self.now) port.0 }
+    {
+        if port == Port::start(self.outer) {
+            return self.first;
+        }
+        Port(self.link_number(port))
+    }
 
-// The token that starts at a port: its cell's second pair of numbers is its place and its length.
-pub fn token_at(memory: &[u32], port: Port) -> Token
-    requires { 2 * port.0 + cell_numbers ≤ length memory.now }
-    ensures { result ≡ token_at memory.now port.0 }
-{
-    let number = 2 * (port.0 as usize + 1);
-    Token {
-        at: Place(memory[number]),
-        len: memory[number + 1],
+    // Lets a port link to another.
+    pub fn set_link(&mut self, port: Port, to: Port)
+        requires { port.0 ≤ start self.old.outer.0 }
+        ensures { Stepped self.old self.new (with_numbers (model self.old) (set (held_numbers self.old) (2 * port.0 + 1) to.0)) }
+    {
+        if port == Port::start(self.outer) {
+            self.first = to;
+        } else {
+            self.set_number(2 * port.0 as usize + 1, to.0);
+        }
+    }
+
+    // The cell that a port keeps where its link leads nowhere. The start of a free cell keeps the next free one. The close
+    // of an open block keeps the cell around it.
+    pub fn kept_cell(&self, port: Port) -> Cell
+        requires { port.0 < start self.now.outer.0 }
+        ensures { result.0 ≡ link (held_numbers self.now) port.0 }
+    {
+        Cell(self.link_number(port))
+    }
+
+    pub fn keep_cell(&mut self, port: Port, cell: Cell)
+        requires { port.0 < start self.old.outer.0 }
+        ensures { Stepped self.old self.new (with_numbers (model self.old) (set (held_numbers self.old) (2 * port.0 + 1) cell.0)) }
+    {
+        self.set_number(2 * port.0 as usize + 1, cell.0);
     }
 }

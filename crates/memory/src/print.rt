@@ -7,55 +7,53 @@ ghost use Rattle.plan.specs.Plan.{Plan, print};
 ghost use Rattle.memory.specs.Held.{HeldIn};
 ghost use Rattle.memory.specs.Pieces.{piece_at, PrintsWithin, print_limit};
 
-use crate::{Held, Kind, Port, kind_at, link_of, token_at};
+use crate::{Held, Kind, Port};
 use pieces::{Piece, put_piece};
 
-// The piece that a port shows: a block's `]`, or by its cell's kind an operator, a token or a block's `[`.
-pub fn piece_at(memory: &[u32], port: Port) -> Piece
-    requires { cell_numbers * (port.0 / 2) + cell_numbers ≤ length memory.now }
-    ensures { result ≡ piece_at memory.now port.0 }
-{
-    if port.closes() {
-        return Piece::Close;
+impl Held<'_> {
+    // The piece that a port shows: a block's `]`, or by its cell's kind an operator, a token or a block's `[`.
+    pub fn piece_at(&self, port: Port) -> Piece
+        requires { cell_numbers * (port.0 / 2) + cell_numbers ≤ length self.now.numbers.now }
+        ensures { result ≡ piece_at self.now.numbers.now port.0 }
+    {
+        if port.closes() {
+            return Piece::Close;
+        }
+        match self.kind_at(port) {
+            Kind::Operator(operator) => Piece::Operator(operator),
+            Kind::Token => Piece::Token(self.token_at(port)),
+            Kind::Block => Piece::Open,
+        }
     }
-    match kind_at(memory, port) {
-        Kind::Operator(operator) => Piece::Operator(operator),
-        Kind::Token => Piece::Token(token_at(memory, port)),
-        Kind::Block => Piece::Open,
-    }
-}
 
-// How long the printed text is. The text itself is not read. It is there for the contract, which tells the plan by it.
-pub fn printed_length(text: &[u8], memory: &[u32], held: Held) -> u32
-    requires { PrintsWithin 0 print_limit text.now memory.now held }
-    ensures { (t : Plan ℕ) → HeldIn text.now memory.now held t → result ≡ length (print t) }
-{
-    let outer = held.outer;
-    let first = held.first;
-    let end = Port::close(outer);
-    let mut port = first;
-    let mut length = 0;
-    while port.0 != end.0 {
-        length += piece_at(memory, port).length();
-        port = link_of(memory, outer, first, port);
+    // How long the printed text is. The text itself is not read. It is there for the contract, which tells the plan by it.
+    pub fn printed_length(&self, text: &[u8]) -> u32
+        requires { PrintsWithin 0 print_limit text.now self.now }
+        ensures { (t : Plan ℕ) → HeldIn text.now self.now t → result ≡ length (print t) }
+    {
+        let end = Port::close(self.outer);
+        let mut port = self.first;
+        let mut length = 0;
+        while port != end {
+            length += self.piece_at(port).length();
+            port = self.link_of(port);
+        }
+        length
     }
-    length
-}
 
-// Writes the printed text to the output, from the place `from` on.
-pub fn print_into(text: &[u8], memory: &[u32], held: Held, out: &mut [u8], from: usize)
-    requires { PrintsWithin from (length out.old) text.now memory.now held }
-    ensures { (t : Plan ℕ) → HeldIn text.now memory.now held t → out.new ≡ put_at out.old from (print t) }
-{
-    let outer = held.outer;
-    let first = held.first;
-    let end = Port::close(outer);
-    let mut port = first;
-    let mut put = from;
-    while port.0 != end.0 {
-        let piece = piece_at(memory, port);
-        put_piece(text, piece, out, put);
-        put += piece.length() as usize;
-        port = link_of(memory, outer, first, port);
+    // Writes the printed text to the output, from the place `from` on.
+    pub fn print_into(&self, text: &[u8], out: &mut [u8], from: usize)
+        requires { PrintsWithin from (length out.old) text.now self.now }
+        ensures { (t : Plan ℕ) → HeldIn text.now self.now t → out.new ≡ put_at out.old from (print t) }
+    {
+        let end = Port::close(self.outer);
+        let mut port = self.first;
+        let mut put = from;
+        while port != end {
+            let piece = self.piece_at(port);
+            put_piece(text, piece, out, put);
+            put += piece.length() as usize;
+            port = self.link_of(port);
+        }
     }
 }

@@ -1,6 +1,6 @@
 -- Whether the item at a port is a ready operator, whether a block opens at a port, and where an item ends. Each is told by the port's datum
 -- and by the ports before it.
-use Rattle.std.specs.Prelude.{ℕ, ◌/◌, ◌%◌, Bool, true, false, cond, List, eqb}
+use Rattle.std.specs.Prelude.{ℕ, ◌/◌, ◌%◌, Bool, true, false, cond, List, Option, None, Some, eqb}
 use Rattle.plan.specs.declared.Operator.{Operator}
 use Rattle.rules.specs.Leftmost.{takes}
 use Rattle.memory.specs.Memory.{close, datum}
@@ -8,8 +8,6 @@ use Rattle.memory.specs.Numbered.{kind_of}
 use Rattle.memory.specs.declared.Kind.{Kind}
 use Rattle.memory.specs.declared.Kind.TheVariants.{Operator as OPERATOR, Token as TOKEN, Block as BLOCK}
 use Rattle.ready.specs.declared.Spot.{Spot}
-use Rattle.ready.specs.declared.Hunted.{Hunted}
-use Rattle.ready.specs.declared.Hunted.TheVariants.{Nothing, Ready}
 
 abbrev pub is_block : Kind → Bool
 is_block (OPERATOR o) = false
@@ -36,10 +34,10 @@ spot_at o at last second before = record {
 
 -- Whether the item at the port `at` is a ready operator. The ports `last`, `second` and `third` are the last ports of the three items
 -- before it, the nearest first. An odd port is a block's close, so its item is a block.
-abbrev pub ready_at : Kind → (at last second third : ℕ) → Hunted
+abbrev pub ready_at : Kind → (at last second third : ℕ) → Option Spot
 ready_at (OPERATOR o) at last second third =
     cond (eqb (last % 2) 1)
-    (cond (eqb (takes o) 2) (cond (eqb (second % 2) 1) (Ready (spot_at o at last second third)) Nothing) (Ready (spot_at o at last second second)))
-    Nothing
-ready_at TOKEN at last second third = Nothing
-ready_at BLOCK at last second third = Nothing
+    (cond (eqb (takes o) 2) (cond (eqb (second % 2) 1) (Some (spot_at o at last second third)) None) (Some (spot_at o at last second second)))
+    None
+ready_at TOKEN at last second third = None
+ready_at BLOCK at last second third = None

@@ -11,7 +11,6 @@ use Rattle.plan.specs.declared.Operator.TheVariants.{A as op_a, B as op_b, C as 
 use Rattle.plan.proofs.Plans.{then_assoc}
 use Rattle.memory.specs.Held.{HeldIn, HeldAlike, held_numbers}
 use Rattle.memory.specs.Memory.{Below, Holds}
-use Rattle.memory.specs.Model.{Lent}
 use Rattle.memory.specs.declared.Held.{Held}
 use Rattle.memory.proofs.Lists.{below_split}
 use Rattle.hunt.specs.Hunting.{RuleAt}
@@ -19,7 +18,7 @@ use Rattle.ready.specs.declared.Spot.{Spot}
 use Rattle.hunt.proofs.Window.{stands_rule}
 use Rattle.rewrites.specs.Rules.{DropBlock, OneBlock, Rewrites, RuleA, RuleB, RuleC, RuleD, TwoBlocks, at_end}
 use Rattle.splices.specs.Splices.{OperatorOut}
-use Rattle.splices.proofs.Chained.{held_after, same-cells, spliced_lent}
+use Rattle.splices.proofs.Chained.{held_after, same-cells}
 use Rattle.rewrites.proofs.Gaps.{gap}
 use Rattle.rewrites.proofs.Moving.{held_said, said_below}
 use Rattle.rewrites.proofs.Ruling.{block_then, operator_out}
@@ -39,7 +38,7 @@ module _ (text : List ℕ) (n : ℕ) (w : List ℕ) (free : ℕ) (f : Frame ℕ)
       let all = subst (λ l. Below n l) (g.used (operator k o end)) (said_below (held_said there)).0 in
       (below_split n g.labels_before (k ∷ g.labels_behind) all).1.0
 
-module _ {text m : List ℕ} {h : Held} {spot : Spot} {f : Frame ℕ} {q q' : Plan ℕ} (r : Rewrites text m h spot f q q') where
+module _ {text : List ℕ} {h : Held} {spot : Spot} {f : Frame ℕ} {q q' : Plan ℕ} (r : Rewrites text h spot f q q') where
   abbrev X : Plan ℕ
   X = r.stands.front
 
@@ -50,26 +49,26 @@ module _ {text m : List ℕ} {h : Held} {spot : Spot} {f : Frame ℕ} {q q' : Pl
   before : {o : Operator} → RuleAt spot o X p q q' → Plan ℕ
   before {o} k = X then lead o spot.older.0 k.older
 
-  here : {o : Operator} (k : RuleAt spot o X p q q') → HeldIn text m h (plug f (before k then block spot.newer.0 k.newer (operator spot.operator.0 o p)))
+  here : {o : Operator} (k : RuleAt spot o X p q q') → HeldIn text h (plug f (before k then block spot.newer.0 k.newer (operator spot.operator.0 o p)))
   unfolding before
-  here k = subst (λ x. HeldIn text m h (plug f x)) (k.is ∙ sym (then_assoc X _ _)) r.held
+  here k = subst (λ x. HeldIn text h (plug f x)) (k.is ∙ sym (then_assoc X _ _)) r.held
 
   pub newer_lent : spot.newer.0 < h.outer.0
   newer_lent =
       let k = r.stands.rule in
-      newer_low text h.outer.0 (held_numbers m h) h.free.0 f (before k) spot.newer.0 k.newer spot.operator.0 spot.which p (here k)
+      newer_low text h.outer.0 (held_numbers h) h.free.0 f (before k) spot.newer.0 k.newer spot.operator.0 spot.which p (here k)
 
   pub operator_lent : spot.operator.0 < h.outer.0
   operator_lent =
       let k = r.stands.rule in
-      operator_low text h.outer.0 (held_numbers m h) h.free.0 f (before k) spot.newer.0 k.newer spot.operator.0 spot.which p (here k)
+      operator_low text h.outer.0 (held_numbers h) h.free.0 f (before k) spot.newer.0 k.newer spot.operator.0 spot.which p (here k)
 
   -- once the operator is out, what its rule asks for is there, and what the rule makes of it is the rewrite
-  module _ {m₁ : List ℕ} {h₁ : Held} (s : OperatorOut m h m₁ h₁ spot.newer.0 spot.operator.0) where
-    out : {o : Operator} (k : RuleAt spot o X p q q') → HeldIn text m₁ h₁ (plug f (X then (lead o spot.older.0 k.older then block spot.newer.0 k.newer p)))
+  module _ {h₁ : Held} (s : OperatorOut h h₁ spot.newer.0 spot.operator.0) where
+    out : {o : Operator} (k : RuleAt spot o X p q q') → HeldIn text h₁ (plug f (X then (lead o spot.older.0 k.older then block spot.newer.0 k.newer p)))
     unfolding before
     out {o} k =
-        subst (λ x. HeldIn text m₁ h₁ (plug f x)) (then_assoc X _ _)
+        subst (λ x. HeldIn text h₁ (plug f x)) (then_assoc X _ _)
         (held_after s (operator_out h.outer.0 f (before k) spot.newer.0 k.newer spot.operator.0 o p (here k)))
 
     still : spot.before.0 ≡ at_end h₁.outer.0 f X
@@ -78,50 +77,49 @@ module _ {text m : List ℕ} {h : Held} {spot : Spot} {f : Frame ℕ} {q q' : Pl
     room : {x : Plan ℕ} → q' ≡ x → cells (plug f x) ≤ h₁.outer.0
     room gives = subst (λ x. cells (plug f x) ≤ h₁.outer.0) gives (let fits = r.room in let e = same-cells s in omega arith)
 
-    module _ (lent : Lent h.outer.0 m) where
-      finds_two : (B A : Plan ℕ) → HeldIn text m₁ h₁ (plug f (X then block spot.older.0 B (block spot.newer.0 A p)))
-          → TwoBlocks m₁ h₁ spot.before.0 spot.older.0 spot.newer.0
-      finds_two B A held =
-          record { lent = spliced_lent s lent; text = text; frame = f; front = X; first = B; second = A; behind = p; at = still; held = held }
+    finds_two : (B A : Plan ℕ) → HeldIn text h₁ (plug f (X then block spot.older.0 B (block spot.newer.0 A p)))
+        → TwoBlocks h₁ spot.before.0 spot.older.0 spot.newer.0
+    finds_two B A held =
+        record { text = text; frame = f; front = X; first = B; second = A; behind = p; at = still; held = held }
 
-      pub finds_a : spot.which ≡ op_a → TwoBlocks m₁ h₁ spot.before.0 spot.older.0 spot.newer.0
-      unfolding ◌then◌
-      finds_a is = let k = stands_rule r.stands is in finds_two k.older k.newer (out k)
+    pub finds_a : spot.which ≡ op_a → TwoBlocks h₁ spot.before.0 spot.older.0 spot.newer.0
+    unfolding ◌then◌
+    finds_a is = let k = stands_rule r.stands is in finds_two k.older k.newer (out k)
 
-      pub finds_b : spot.which ≡ op_b → TwoBlocks m₁ h₁ spot.before.0 spot.older.0 spot.newer.0
-      unfolding ◌then◌
-      finds_b is = let k = stands_rule r.stands is in finds_two k.older k.newer (out k)
+    pub finds_b : spot.which ≡ op_b → TwoBlocks h₁ spot.before.0 spot.older.0 spot.newer.0
+    unfolding ◌then◌
+    finds_b is = let k = stands_rule r.stands is in finds_two k.older k.newer (out k)
 
-      pub finds_c : spot.which ≡ op_c → OneBlock text m₁ h₁ spot.newer.0
-      unfolding ◌then◌
-      finds_c is =
-          let k = stands_rule r.stands is in
-          record { lent = spliced_lent s lent; frame = f; front = X; contents = k.newer; behind = p; held = out k; room = room k.gives }
+    pub finds_c : spot.which ≡ op_c → OneBlock text h₁ spot.newer.0
+    unfolding ◌then◌
+    finds_c is =
+        let k = stands_rule r.stands is in
+        record { frame = f; front = X; contents = k.newer; behind = p; held = out k; room = room k.gives }
 
-      pub finds_d : spot.which ≡ op_d → DropBlock m₁ h₁ spot.before.0 spot.newer.0
-      unfolding ◌then◌
-      finds_d is =
-          let k = stands_rule r.stands is in
-          record { lent = spliced_lent s lent; text = text; frame = f; front = X; contents = k.newer; behind = p; at = still; held = out k }
+    pub finds_d : spot.which ≡ op_d → DropBlock h₁ spot.before.0 spot.newer.0
+    unfolding ◌then◌
+    finds_d is =
+        let k = stands_rule r.stands is in
+        record { text = text; frame = f; front = X; contents = k.newer; behind = p; at = still; held = out k }
 
-    module _ {m' : List ℕ} {h' : Held} where
-      exactly : {x : Plan ℕ} → q' ≡ x → HeldIn text m' h' (plug f x) → HeldAlike text m' h' (plug f q')
+    module _ {h' : Held} where
+      exactly : {x : Plan ℕ} → q' ≡ x → HeldIn text h' (plug f x) → HeldAlike text h' (plug f q')
       exactly {x} e held = record { plan = plug f x; alike = ap (λ y. bare (plug f y)) (sym e); held = held }
 
-      pub makes_a : spot.which ≡ op_a → RuleA m₁ h₁ m' h' spot.before.0 spot.older.0 spot.newer.0 → HeldAlike text m' h' (plug f q')
+      pub makes_a : spot.which ≡ op_a → RuleA h₁ h' spot.before.0 spot.older.0 spot.newer.0 → HeldAlike text h' (plug f q')
       unfolding ◌then◌
       makes_a is made = let k = stands_rule r.stands is in exactly k.gives (made text f X k.older k.newer p still (out k))
 
-      pub makes_b : spot.which ≡ op_b → RuleB m₁ h₁ m' h' spot.before.0 spot.older.0 spot.newer.0 → HeldAlike text m' h' (plug f q')
+      pub makes_b : spot.which ≡ op_b → RuleB h₁ h' spot.before.0 spot.older.0 spot.newer.0 → HeldAlike text h' (plug f q')
       unfolding ◌then◌
       makes_b is made = let k = stands_rule r.stands is in exactly k.gives (made text f X k.older k.newer p still (out k))
 
-      pub makes_c : spot.which ≡ op_c → RuleC text m₁ h₁ m' h' spot.newer.0 → HeldAlike text m' h' (plug f q')
+      pub makes_c : spot.which ≡ op_c → RuleC text h₁ h' spot.newer.0 → HeldAlike text h' (plug f q')
       unfolding ◌then◌
       makes_c is made =
           let k = stands_rule r.stands is in
-          subst (λ x. HeldAlike text m' h' (plug f x)) (sym k.gives) (made f X k.newer p (out k) (room k.gives))
+          subst (λ x. HeldAlike text h' (plug f x)) (sym k.gives) (made f X k.newer p (out k) (room k.gives))
 
-      pub makes_d : spot.which ≡ op_d → RuleD m₁ h₁ m' h' spot.before.0 spot.newer.0 → HeldAlike text m' h' (plug f q')
+      pub makes_d : spot.which ≡ op_d → RuleD h₁ h' spot.before.0 spot.newer.0 → HeldAlike text h' (plug f q')
       unfolding ◌then◌
       makes_d is made = let k = stands_rule r.stands is in exactly k.gives (made text f X k.newer p still (out k))

@@ -4,7 +4,6 @@ use Rattle.std.specs.Prelude.{ℕ, ◌≤◌, ◌≡◌, List}
 use Rattle.rules.specs.Frames.{Frame, plug}
 use Rattle.plan.specs.Plan.{Plan, block, ◌then◌, cells}
 use Rattle.memory.specs.Held.{HeldIn, HeldAlike}
-use Rattle.memory.specs.Model.{Lent}
 use Rattle.memory.specs.declared.Held.{Held}
 use Rattle.hunt.specs.Hunting.{Stands, cell_of, port_behind}
 use Rattle.ready.specs.declared.Spot.{Spot}
@@ -14,8 +13,7 @@ abbrev pub at_end : (n : ℕ) → Frame ℕ → Plan ℕ → ℕ
 at_end n f X = port_behind (cell_of n f) X
 
 -- the memory holds a plan with two blocks behind the port `before`
-pub record TwoBlocks (m : List ℕ) (h : Held) (before older newer : ℕ) : Type 0 where
-  pub lent : Lent h.outer.0 m
+pub record TwoBlocks (h : Held) (before older newer : ℕ) : Type 0 where
   pub text : List ℕ
   pub frame : Frame ℕ
   pub front : Plan ℕ
@@ -23,66 +21,63 @@ pub record TwoBlocks (m : List ℕ) (h : Held) (before older newer : ℕ) : Type
   pub second : Plan ℕ
   pub behind : Plan ℕ
   pub at : before ≡ at_end h.outer.0 frame front
-  pub held : HeldIn text m h (plug frame (front then block older first (block newer second behind)))
+  pub held : HeldIn text h (plug frame (front then block older first (block newer second behind)))
 
 -- `[B][A]` becomes A, then `[B]`
-abbrev pub RuleA : (m : List ℕ) → Held → (m' : List ℕ) → Held → (before older newer : ℕ) → Type 0
-RuleA m h m' h' before older newer =
+abbrev pub RuleA : Held → Held → (before older newer : ℕ) → Type 0
+RuleA h h' before older newer =
     (text : List ℕ) (f : Frame ℕ) (X B A p : Plan ℕ) → before ≡ at_end h.outer.0 f X
-    → HeldIn text m h (plug f (X then block older B (block newer A p))) → HeldIn text m' h' (plug f (X then (A then block older B p)))
+    → HeldIn text h (plug f (X then block older B (block newer A p))) → HeldIn text h' (plug f (X then (A then block older B p)))
 
 -- `[B][A]` becomes `[[B]A]`
-abbrev pub RuleB : (m : List ℕ) → Held → (m' : List ℕ) → Held → (before older newer : ℕ) → Type 0
-RuleB m h m' h' before older newer =
+abbrev pub RuleB : Held → Held → (before older newer : ℕ) → Type 0
+RuleB h h' before older newer =
     (text : List ℕ) (f : Frame ℕ) (X B A p : Plan ℕ) → before ≡ at_end h.outer.0 f X
-    → HeldIn text m h (plug f (X then block older B (block newer A p))) → HeldIn text m' h' (plug f (X then block newer (block older B A) p))
+    → HeldIn text h (plug f (X then block older B (block newer A p))) → HeldIn text h' (plug f (X then block newer (block older B A) p))
 
 -- the memory holds a plan with a block, and there is room for that block once more
-pub record OneBlock (text m : List ℕ) (h : Held) (newer : ℕ) : Type 0 where
-  pub lent : Lent h.outer.0 m
+pub record OneBlock (text : List ℕ) (h : Held) (newer : ℕ) : Type 0 where
   pub frame : Frame ℕ
   pub front : Plan ℕ
   pub contents : Plan ℕ
   pub behind : Plan ℕ
-  pub held : HeldIn text m h (plug frame (front then block newer contents behind))
+  pub held : HeldIn text h (plug frame (front then block newer contents behind))
   pub room : cells (plug frame (front then block newer contents (block newer contents behind))) ≤ h.outer.0
 
 -- `[A]` becomes `[A][A]`
-abbrev pub RuleC : (text m : List ℕ) → Held → (m' : List ℕ) → Held → (newer : ℕ) → Type 0
-RuleC text m h m' h' newer =
-    (f : Frame ℕ) (X A p : Plan ℕ) → HeldIn text m h (plug f (X then block newer A p))
-    → cells (plug f (X then block newer A (block newer A p))) ≤ h.outer.0 → HeldAlike text m' h' (plug f (X then block newer A (block newer A p)))
+abbrev pub RuleC : (text : List ℕ) → Held → Held → (newer : ℕ) → Type 0
+RuleC text h h' newer =
+    (f : Frame ℕ) (X A p : Plan ℕ) → HeldIn text h (plug f (X then block newer A p))
+    → cells (plug f (X then block newer A (block newer A p))) ≤ h.outer.0 → HeldAlike text h' (plug f (X then block newer A (block newer A p)))
 
 -- the memory holds a plan with a block behind the port `before`
-pub record DropBlock (m : List ℕ) (h : Held) (before newer : ℕ) : Type 0 where
-  pub lent : Lent h.outer.0 m
+pub record DropBlock (h : Held) (before newer : ℕ) : Type 0 where
   pub text : List ℕ
   pub frame : Frame ℕ
   pub front : Plan ℕ
   pub contents : Plan ℕ
   pub behind : Plan ℕ
   pub at : before ≡ at_end h.outer.0 frame front
-  pub held : HeldIn text m h (plug frame (front then block newer contents behind))
+  pub held : HeldIn text h (plug frame (front then block newer contents behind))
 
 -- `[A]` becomes nothing
-abbrev pub RuleD : (m : List ℕ) → Held → (m' : List ℕ) → Held → (before newer : ℕ) → Type 0
-RuleD m h m' h' before newer =
+abbrev pub RuleD : Held → Held → (before newer : ℕ) → Type 0
+RuleD h h' before newer =
     (text : List ℕ) (f : Frame ℕ) (X A p : Plan ℕ) → before ≡ at_end h.outer.0 f X
-    → HeldIn text m h (plug f (X then block newer A p)) → HeldIn text m' h' (plug f (X then p))
+    → HeldIn text h (plug f (X then block newer A p)) → HeldIn text h' (plug f (X then p))
 
 -- the memory holds the plan with q in the frame; the rewrite at the spot makes q' of q; and the plan with q' there finds room
-pub record Rewrites (text m : List ℕ) (h : Held) (spot : Spot) (f : Frame ℕ) (q q' : Plan ℕ) : Type 0 where
-  pub held : HeldIn text m h (plug f q)
+pub record Rewrites (text : List ℕ) (h : Held) (spot : Spot) (f : Frame ℕ) (q q' : Plan ℕ) : Type 0 where
+  pub held : HeldIn text h (plug f q)
   pub stands : Stands spot (cell_of h.outer.0 f) q q'
   pub room : cells (plug f q') ≤ h.outer.0
 
-pub record Rewritable (text m : List ℕ) (h : Held) (spot : Spot) : Type 0 where
-  pub lent : Lent h.outer.0 m
+pub record Rewritable (text : List ℕ) (h : Held) (spot : Spot) : Type 0 where
   pub frame : Frame ℕ
   pub before : Plan ℕ
   pub after : Plan ℕ
-  pub rewrites : Rewrites text m h spot frame before after
+  pub rewrites : Rewrites text h spot frame before after
 
 -- the memory holds what the rewrite at the spot gives, wherever the spot stood
-abbrev pub RewriteMade : (text m : List ℕ) → Held → Spot → (m' : List ℕ) → Held → Type 0
-RewriteMade text m h spot m' h' = (f : Frame ℕ) (q q' : Plan ℕ) → Rewrites text m h spot f q q' → HeldAlike text m' h' (plug f q')
+abbrev pub RewriteMade : (text : List ℕ) → Held → Spot → Held → Type 0
+RewriteMade text h spot h' = (f : Frame ℕ) (q q' : Plan ℕ) → Rewrites text h spot f q q' → HeldAlike text h' (plug f q')

@@ -3,92 +3,72 @@
 // for the copy of c, only links move. A cell that leaves the plan is free at once.
 #![tactic(auto)]
 
-ghost use Rattle.std.specs.Prelude.{◌≡◌};
-ghost use Rattle.memory.specs.Model.{Aside};
+ghost use Rattle.memory.specs.Held.{SameCells};
 ghost use Rattle.rewrites.specs.Rules.{DropBlock, OneBlock, Rewritable, RewriteMade, RuleA, RuleB, RuleC, RuleD, TwoBlocks};
 
 use blocks::{free_block, last_port};
 use copier::copy_block;
-use kinds::Cell;
 use memory::{Held, Port};
 use plan::Operator;
 use ready::Spot;
 use splices::{cut, move_block, put_in, remove_operator, unwrap};
 
 // The rule of a, once its operator is out. The older block goes behind the contents of the newer one, and the newer one is opened.
-fn rule_a(memory: &mut [u32], held: Held, before: Port, older: Cell, newer: Cell) -> Held
-    requires { TwoBlocks memory.old held before.0 older.0 newer.0 }
-    ensures changed { RuleA memory.old held memory.new result before.0 older.0 newer.0 }
-    ensures same_cells { result.outer ≡ held.outer }
-    ensures aside { Aside held.outer.0 memory.old memory.new }
+fn rule_a(held: &mut Held, spot: Spot)
+    requires { TwoBlocks held.old spot.before.0 spot.older.0 spot.newer.0 }
+    ensures changed { RuleA held.old held.new spot.before.0 spot.older.0 spot.newer.0 }
+    ensures same { SameCells held.old held.new }
 {
-    let outer = held.outer;
-    let first = held.first;
-    let last = last_port(memory, outer, first, newer);
-    let joined = move_block(memory, held, before, older, last);
-    unwrap(memory, joined, before, newer, Port::close(older))
+    let last = last_port(held, spot.newer);
+    move_block(held, spot.before, spot.older, last);
+    unwrap(held, spot.before, spot.newer, Port::close(spot.older));
 }
 
 // The rule of b, once its operator is out. The older block goes before the contents of the newer one.
-fn rule_b(memory: &mut [u32], held: Held, before: Port, older: Cell, newer: Cell) -> Held
-    requires { TwoBlocks memory.old held before.0 older.0 newer.0 }
-    ensures changed { RuleB memory.old held memory.new result before.0 older.0 newer.0 }
-    ensures same_cells { result.outer ≡ held.outer }
-    ensures aside { Aside held.outer.0 memory.old memory.new }
+fn rule_b(held: &mut Held, spot: Spot)
+    requires { TwoBlocks held.old spot.before.0 spot.older.0 spot.newer.0 }
+    ensures changed { RuleB held.old held.new spot.before.0 spot.older.0 spot.newer.0 }
+    ensures same { SameCells held.old held.new }
 {
-    move_block(memory, held, before, older, Port::start(newer))
+    move_block(held, spot.before, spot.older, Port::start(spot.newer));
 }
 
 // The rule of c, once its operator is out. A copy of the block goes behind it.
-fn rule_c(text: &[u8], memory: &mut [u32], held: Held, newer: Cell) -> Held
-    requires { OneBlock text.now memory.old held newer.0 }
-    ensures changed { RuleC text.now memory.old held memory.new result newer.0 }
-    ensures same_cells { result.outer ≡ held.outer }
-    ensures aside { Aside held.outer.0 memory.old memory.new }
+fn rule_c(text: &[u8], held: &mut Held, spot: Spot)
+    requires { OneBlock text.now held.old spot.newer.0 }
+    ensures changed { RuleC text.now held.old held.new spot.newer.0 }
+    ensures same { SameCells held.old held.new }
 {
-    let made = copy_block(text, memory, held, newer);
-    let beside = made.held;
-    let copy = made.copy;
+    let copy = copy_block(text, held, spot.newer);
     put_in(
-        memory,
-        beside,
-        Port::close(newer),
+        held,
+        Port::close(spot.newer),
         Port::start(copy),
         Port::close(copy),
-    )
+    );
 }
 
 // The rule of d, once its operator is out. The block leaves the plan, and its cells are free.
-fn rule_d(memory: &mut [u32], held: Held, before: Port, newer: Cell) -> Held
-    requires { DropBlock memory.old held before.0 newer.0 }
-    ensures changed { RuleD memory.old held memory.new result before.0 newer.0 }
-    ensures same_cells { result.outer ≡ held.outer }
-    ensures aside { Aside held.outer.0 memory.old memory.new }
+fn rule_d(held: &mut Held, spot: Spot)
+    requires { DropBlock held.old spot.before.0 spot.newer.0 }
+    ensures changed { RuleD held.old held.new spot.before.0 spot.newer.0 }
+    ensures same { SameCells held.old held.new }
 {
-    let out = cut(memory, held, before, Port::close(newer));
-    let outer = out.outer;
-    let first = out.first;
-    let spare = out.free;
-    let free = free_block(memory, outer, first, spare, newer);
-    Held { outer, first, free }
+    cut(held, spot.before, Port::close(spot.newer));
+    free_block(held, spot.newer);
 }
 
 // Makes the rewrite of a ready operator: the memory then holds what the rule gives.
-pub fn rewrite(text: &[u8], memory: &mut [u32], held: Held, spot: Spot) -> Held
-    requires { Rewritable text.now memory.old held spot }
-    ensures rewritten { RewriteMade text.now memory.old held spot memory.new result }
-    ensures same_cells { result.outer ≡ held.outer }
-    ensures aside { Aside held.outer.0 memory.old memory.new }
+pub fn rewrite(text: &[u8], held: &mut Held, spot: Spot)
+    requires { Rewritable text.now held.old spot }
+    ensures rewritten { RewriteMade text.now held.old spot held.new }
+    ensures same { SameCells held.old held.new }
 {
-    let before = spot.before;
-    let older = spot.older;
-    let newer = spot.newer;
-    let which = spot.which;
-    let rest = remove_operator(memory, held, newer, spot.operator);
-    match which {
-        Operator::A => rule_a(memory, rest, before, older, newer),
-        Operator::B => rule_b(memory, rest, before, older, newer),
-        Operator::C => rule_c(text, memory, rest, newer),
-        Operator::D => rule_d(memory, rest, before, newer),
+    remove_operator(held, spot.newer, spot.operator);
+    match spot.which {
+        Operator::A => rule_a(held, spot),
+        Operator::B => rule_b(held, spot),
+        Operator::C => rule_c(text, held, spot),
+        Operator::D => rule_d(held, spot),
     }
 }

@@ -1,9 +1,8 @@
 -- The links that a rewrite moves, on plain values: ports are cut out of the chain, linked ports are put in, a cell is free again.
 -- The code's functions promise exactly these moves. That a rewrite is made of them is proved of the moves alone.
 use Rattle.std.specs.Prelude.{ℕ, ◌+◌, ◌*◌, ◌≡◌, List, set}
-use Rattle.memory.specs.Held.{held_numbers}
+use Rattle.memory.specs.Held.{SameCells, held_numbers}
 use Rattle.memory.specs.Memory.{start, close, link}
-use Rattle.memory.specs.Model.{Aside}
 use Rattle.memory.specs.declared.Held.{Held}
 
 -- the port `after` links to what stands behind `last`
@@ -28,17 +27,15 @@ unfoldable pub unwrapped : List ℕ → (free before c last : ℕ) → List ℕ
 unwrapped w free before c last = released (cut (cut w last (close c)) before (start c)) free c
 
 -- afterwards the memory, with what is kept beside it, is v, and `spare` is the first free cell
-pub record Spliced (m : List ℕ) (h : Held) (m' : List ℕ) (h' : Held) (v : List ℕ) (spare : ℕ) : Type 0 where
-  pub numbers : held_numbers m' h' ≡ v
+pub record Spliced (h h' : Held) (v : List ℕ) (spare : ℕ) : Type 0 where
+  pub numbers : held_numbers h' ≡ v
   pub free : h'.free.0 ≡ spare
-  pub outer : h'.outer ≡ h.outer
-  pub aside : Aside h.outer.0 m m'
+  pub same : SameCells h h'
 
 -- the operator behind the block at the cell `newer` is out of the chain, and its cell is the first free one
-abbrev pub OperatorOut : (m : List ℕ) → Held → (m' : List ℕ) → Held → (newer operator : ℕ) → Type 0
-OperatorOut m h m' h' newer operator =
-    Spliced m h m' h' (released (cut (held_numbers m h) (close newer) (start operator)) h.free.0 operator) operator
+abbrev pub OperatorOut : Held → Held → (newer operator : ℕ) → Type 0
+OperatorOut h h' newer operator = Spliced h h' (released (cut (held_numbers h) (close newer) (start operator)) h.free.0 operator) operator
 
 -- the contents of the block at the cell c stand in its place, and its cell is the first free one
-abbrev pub BlockOpened : (m : List ℕ) → Held → (m' : List ℕ) → Held → (before c last : ℕ) → Type 0
-BlockOpened m h m' h' before c last = Spliced m h m' h' (unwrapped (held_numbers m h) h.free.0 before c last) c
+abbrev pub BlockOpened : Held → Held → (before c last : ℕ) → Type 0
+BlockOpened h h' before c last = Spliced h h' (unwrapped (held_numbers h) h.free.0 before c last) c

@@ -4,7 +4,7 @@ use Rattle.engine.proofs.Looping.{RunSoFar}
 use Rattle.engine.proofs.run.Given as goal
 
 abbrev pub invariant-loop-ending : goal.invariant-loop-ending
-invariant-loop-ending l = RunSoFar l.text l.initial.memory l.initial.here l.initial.cells l.quota l.memory l.here l.cells l.steps
+invariant-loop-ending l = RunSoFar l.text l.initial.held l.initial.cells l.quota l.held l.cells l.steps
 
 abbrev pub decreases-loop-ending : goal.decreases-loop-ending
 decreases-loop-ending l = l.quota - l.steps

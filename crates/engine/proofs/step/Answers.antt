@@ -8,20 +8,20 @@ hunt-requires c = huntable c.requires
 
 pub returns-then-after-outer-clause-turned : goal.returns-then-after-outer-clause-turned
 returns-then-after-outer-clause-turned c =
-    turn_full c.hunt.ensures c.in-Ready.is _ c.size_after-after.ensures c.if-after-outer.true true
+    turn_full c.hunt.ensures c.in-Some.is _ c.size_after-after.ensures c.if-after-outer.true true
 
 pub returns-then-not-more-clause-turned : goal.returns-then-not-more-clause-turned
 returns-then-not-more-clause-turned c =
-    turn_quota c.hunt.ensures c.in-Ready.is _ c.size_after-after.ensures (omega arith) _ (ap not c.if-not-more.true)
+    turn_quota c.hunt.ensures c.in-Some.is _ c.size_after-after.ensures (omega arith) _ (ap not c.if-not-more.true)
 
-pub rewrite-next-requires : goal.rewrite-next-requires
-rewrite-next-requires c =
-    turn_rewritable c.hunt.ensures c.in-Ready.is _ c.size_after-after.ensures c.if-after-outer.false c.requires
+pub rewrite-requires : goal.rewrite-requires
+rewrite-requires c =
+    turn_rewritable c.hunt.ensures c.in-Some.is _ c.size_after-after.ensures c.if-after-outer.false c.requires
 
-pub returns-in-Nothing-clause-turned : goal.returns-in-Nothing-clause-turned
-returns-in-Nothing-clause-turned c = turn-done c.hunt.ensures c.in-Nothing.is true
+pub returns-in_default-clause-turned : goal.returns-in_default-clause-turned
+returns-in_default-clause-turned c = turn-done c.hunt.ensures c.in_default.is true
 
-pub returns-else-not-more-clause-turned : goal.returns-else-not-more-clause-turned
-returns-else-not-more-clause-turned c =
-    turn_went c.hunt.ensures c.in-Ready.is _ c.size_after-after.ensures c.if-after-outer.false _ (ap not c.if-not-more.false)
-    c.rewrite-next.ensures.rewritten
+pub returns-clause-turned : goal.returns-clause-turned
+returns-clause-turned c =
+    turn_went c.hunt.ensures c.in-Some.is _ c.size_after-after.ensures c.if-after-outer.false _ (ap not c.if-not-more.false)
+    c.rewrite.ensures.rewritten

@@ -1,34 +1,35 @@
 -- `scan`: what each call requires, and each turn of the loop, are the lemmas of `Scanning`.
-use Rattle.std.proofs.Common.{le_of_lt}
-use Rattle.hunt.proofs.Scanning.{scan_first, scan_here, scan_low, scan_cell, scan_next, scan_past, scan_found, scan_none}
+use Rattle.memory.proofs.Compared.{apart, met}
+use Rattle.hunt.proofs.Scanning.{scan_first, scan_here, scan_cell, scan_next, scan_past, scan_found, scan_none}
 use Rattle.hunt.proofs.scan.Goals as goal
 
-pub loop-at-init : goal.loop-at-init
-loop-at-init c = scan_first c.requires _ _ _ c.close-end.ensures c.start-third.ensures c.link_of-at.ensures
+pub loop-end-init : goal.loop-end-init
+loop-end-init c = scan_first c.requires _ _ _ c.close-end.ensures c.start-third.ensures c.link_of-at.ensures
 
 pub kind_at-kind-requires : goal.kind_at-kind-requires
-kind_at-kind-requires c = scan_here c.loop-at.invariant c.loop-at-test.true
+kind_at-kind-requires c = scan_here c.loop-end.invariant (apart c.ne.ensures c.loop-end-test.true)
 
-pub returns-in-Ready : goal.returns-in-Ready
-returns-in-Ready c =
-    scan_found c.loop-at.invariant c.loop-at-test.true _ c.kind_at-kind.ensures _ c.ready_at.ensures _ c.in-Ready.is _ c.close-end.ensures
+pub returns-in-Some : goal.returns-in-Some
+returns-in-Some c =
+    scan_found c.loop-end.invariant (apart c.ne.ensures c.loop-end-test.true) _ c.kind_at-kind.ensures _ c.ready_at.ensures _ c.in-Some.is _
+    c.close-end.ensures
 
 pub end_port-last-requires : goal.end_port-last-requires
-end_port-last-requires c = scan_cell c.loop-at.invariant c.loop-at-test.true
+end_port-last-requires c = scan_cell c.loop-end.invariant (apart c.ne.ensures c.loop-end-test.true)
 
-pub link_of-at-requires-in-loop-at : goal.link_of-at-requires-in-loop-at
-link_of-at-requires-in-loop-at c =
-    (c.loop-at.invariant.lent, search (scan_next, scan_low, le_of_lt))
+pub link_of-at-requires-in-loop-end : goal.link_of-at-requires-in-loop-end
+link_of-at-requires-in-loop-end c =
+    scan_next c.loop-end.invariant (apart c.ne.ensures c.loop-end-test.true) _ _ c.end_port-last.ensures
 
-pub loop-at-preserved : goal.loop-at-preserved
-loop-at-preserved c =
-    (scan_past c.loop-at.invariant c.loop-at-test.true _ c.kind_at-kind.ensures _ c.ready_at.ensures c.in-Nothing.is
-    _ _ c.end_port-last.ensures c.link_of-at-in-loop-at.ensures).0
+pub loop-end-preserved : goal.loop-end-preserved
+loop-end-preserved c =
+    (scan_past c.loop-end.invariant (apart c.ne.ensures c.loop-end-test.true) _ c.kind_at-kind.ensures _ c.ready_at.ensures c.in_default.is
+    _ _ c.end_port-last.ensures c.link_of-at-in-loop-end.ensures).0
 
-pub loop-at-smaller : goal.loop-at-smaller
-loop-at-smaller c =
-    (scan_past c.loop-at.invariant c.loop-at-test.true _ c.kind_at-kind.ensures _ c.ready_at.ensures c.in-Nothing.is
-    _ _ c.end_port-last.ensures c.link_of-at-in-loop-at.ensures).1
+pub loop-end-smaller : goal.loop-end-smaller
+loop-end-smaller c =
+    (scan_past c.loop-end.invariant (apart c.ne.ensures c.loop-end-test.true) _ c.kind_at-kind.ensures _ c.ready_at.ensures c.in_default.is
+    _ _ c.end_port-last.ensures c.link_of-at-in-loop-end.ensures).1
 
 pub returns : goal.returns
-returns c = scan_none c.loop-at.invariant c.loop-at-test.false _ c.close-end.ensures
+returns c = scan_none c.loop-end.invariant (met c.ne.ensures c.loop-end-test.false) _ c.close-end.ensures

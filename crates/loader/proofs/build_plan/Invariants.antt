@@ -4,4 +4,4 @@ use Rattle.loader.proofs.BuildLoop.{Onward}
 use Rattle.loader.proofs.build_plan.Given as goal
 
 abbrev pub invariant-loop-piece : goal.invariant-loop-piece
-invariant-loop-piece l = OnWalk l.text l.piece-iterator (Onward l.text l.initial.memory l.initial.build l.memory l.build l.piece-iterator.at)
+invariant-loop-piece l = OnWalk l.text l.piece-iterator (Onward l.text l.initial.held l.held l.piece-iterator.at)

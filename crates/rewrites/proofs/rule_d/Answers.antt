@@ -6,11 +6,11 @@ use Rattle.rewrites.proofs.rule_d.Goals as goal
 pub close-requires : goal.close-requires
 close-requires c = drop-small c.requires
 
-pub cut-out-requires : goal.cut-out-requires
-cut-out-requires c = (c.requires.lent, drop_before c.requires, close_low (drop_low c.requires) c.close.ensures)
+pub cut-requires : goal.cut-requires
+cut-requires c = (drop_before c.requires, close_low (drop_low c.requires) c.close.ensures)
 
-pub free_block-free-requires : goal.free_block-free-requires
-free_block-free-requires c = drop_leaves _ _ _ c.close.ensures c.cut-out.ensures c.requires
+pub free_block-requires : goal.free_block-requires
+free_block-requires c = drop_leaves _ _ _ c.close.ensures c.cut.ensures c.requires
 
 pub returns-clause-changed : goal.returns-clause-changed
-returns-clause-changed c = rule_d_holds _ _ _ c.close.ensures c.cut-out.ensures _ _ c.free_block-free.ensures.frees
+returns-clause-changed c = rule_d_holds _ _ _ c.close.ensures c.cut.ensures c.free_block.ensures.frees c.free_block.ensures.same
