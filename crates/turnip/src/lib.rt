@@ -3,21 +3,18 @@
 // The crate turnip_c exports each of them to C, under its name.
 #![tactic(auto)]
 
-ghost use Rattle.std.specs.Prelude.{◌≡◌};
+ghost use Rattle.std.specs.Prelude.{◌≡◌, get_or};
 ghost use Rattle.numbers.specs.Numbers.{read_numbers};
 ghost use Rattle.read.specs.Calls.{ReadsOut};
 ghost use Rattle.roll_rules.specs.Answers.{one_entry, roll_numbers};
 ghost use Rattle.roll_read.specs.Calls.{Lists};
 ghost use Rattle.words_meaning.specs.Answers.{link_numbers};
 ghost use Rattle.words_link.specs.Calls.{Links};
-ghost use Rattle.turnip.specs.RollArrays.{ClosesInArray, FilesInArray, five_of_entry, five_of_roll, tally_grown};
+ghost use Rattle.turnip.specs.RollArrays.{ClosesInArray, FilesInArray, five_of_entry, five_of_roll, tally_set};
 ghost use Rattle.turnip.specs.Arrays.{InArray, RunsInArray, five_of};
 
-use answers::of_run;
-use numbers::{Numbers, of_read};
-use roll_add::{Entered, done_entry, file_entry, with_entry};
-use roll_rules::{EntryAnswer, RollAnswer, Tally};
-use words_meaning::of_link;
+use numbers::Numbers;
+use roll_rules::{EntryRefusal, FoundEntry, LISTED, RollNumbers, RollRefusal, Sums, Tally};
 
 fn store(told: Numbers, answer: &mut [u32; 5])
     ensures { answer.new ≡ five_of told }
@@ -28,7 +25,7 @@ fn store(told: Numbers, answer: &mut [u32; 5])
 pub fn turnip_read(text: &[u8], out: &mut [u8], answer: &mut [u32; 5])
     ensures { InArray (λ r. five_of (read_numbers r)) (λ r. ReadsOut text.now out.old r out.new) answer.new }
 {
-    store(of_read(read::read(text, out)), answer);
+    store(read::read(text, out).into(), answer);
 }
 
 pub fn turnip_run(
@@ -40,13 +37,13 @@ pub fn turnip_run(
 )
     ensures { RunsInArray text.now quota memory.old out.old memory.new out.new answer.new }
 {
-    store(of_run(run::run(text, quota, memory, out)), answer);
+    store(run::run(text, quota, memory, out).into(), answer);
 }
 
-fn store_roll(given: RollAnswer, answer: &mut [u32; 5])
+fn store_roll(given: Result<Sums, RollRefusal>, answer: &mut [u32; 5])
     ensures { answer.new ≡ five_of_roll (roll_numbers given) }
 {
-    let told = given.numbers();
+    let told = RollNumbers::from(given);
     *answer = [told.number, told.entries, told.filed, told.done, told.place];
 }
 
@@ -56,20 +53,19 @@ pub fn turnip_roll_read(roll: &[u8], list: &mut [u32], answer: &mut [u32; 5])
     store_roll(roll_read::read(roll, list), answer);
 }
 
-fn store_entry(given: EntryAnswer, answer: &mut [u32; 5])
+fn store_entry(given: Result<FoundEntry, EntryRefusal>, answer: &mut [u32; 5])
     ensures { answer.new ≡ five_of_entry given }
 {
-    let number = given.number();
-    match given {
-        EntryAnswer::TooLong => *answer = [number, 0, 0, 0, 0],
-        EntryAnswer::NoEntry => *answer = [number, 0, 0, 0, 0],
-        EntryAnswer::Found {
-            job,
-            job_bytes,
-            text,
-            text_bytes,
-        } => *answer = [number, job, job_bytes, text, text_bytes],
-    }
+    *answer = match given {
+        Ok(entry) => [
+            LISTED,
+            entry.job,
+            entry.job_bytes,
+            entry.text,
+            entry.text_bytes,
+        ],
+        Err(why) => [why.number(), 0, 0, 0, 0],
+    };
 }
 
 pub fn turnip_roll_entry(roll: &[u8], at: usize, answer: &mut [u32; 5])
@@ -79,21 +75,20 @@ pub fn turnip_roll_entry(roll: &[u8], at: usize, answer: &mut [u32; 5])
 }
 
 // The array for a tally has jobs filed, then jobs done.
-fn store_entered(entered: Entered, tally: &mut [u32; 2], answer: &mut [u32; 5])
-    ensures counts { tally.new ≡ tally_grown tally.old entered.filed entered.done }
-    ensures told { answer.new ≡ five_of_roll (roll_numbers entered.answer) }
+fn tally_in(tally: &[u32; 2]) -> Tally
+    ensures { (result.filed ≡ get_or tally.now 0 0) × (result.done ≡ get_or tally.now 1 0) }
 {
-    let counted = with_entry(
-        Tally {
-            filed: tally[0],
-            done: tally[1],
-        },
-        entered,
-    );
+    Tally {
+        filed: tally[0],
+        done: tally[1],
+    }
+}
+
+fn store_tally(counted: Tally, tally: &mut [u32; 2])
+    ensures { tally.new ≡ tally_set tally.old counted.filed counted.done }
+{
     tally[0] = counted.filed;
     tally[1] = counted.done;
-    let given = entered.answer;
-    store_roll(given, answer);
 }
 
 pub fn turnip_roll_file(
@@ -106,8 +101,9 @@ pub fn turnip_roll_file(
 )
     ensures { FilesInArray roll.old used job.now text.now tally.old roll.new tally.new answer.new }
 {
-    let entered = file_entry(roll, used, job, text);
-    store_entered(entered, tally, answer);
+    let mut counted = tally_in(tally);
+    store_roll(roll_add::file(&mut counted, roll, used, job, text), answer);
+    store_tally(counted, tally);
 }
 
 pub fn turnip_roll_done(
@@ -119,12 +115,13 @@ pub fn turnip_roll_done(
 )
     ensures { ClosesInArray roll.old used job.now tally.old roll.new tally.new answer.new }
 {
-    let entered = done_entry(roll, used, job);
-    store_entered(entered, tally, answer);
+    let mut counted = tally_in(tally);
+    store_roll(roll_add::close_job(&mut counted, roll, used, job), answer);
+    store_tally(counted, tally);
 }
 
 pub fn turnip_link(list: &[u8], text: &[u8], out: &mut [u8], answer: &mut [u32; 5])
     ensures { InArray (λ r. five_of (link_numbers r)) (λ r. Links list.now text.now out.old r out.new) answer.new }
 {
-    store(of_link(words_link::link(list, text, out)), answer);
+    store(words_link::link(list, text, out).into(), answer);
 }
