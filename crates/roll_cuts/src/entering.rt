@@ -1,84 +1,86 @@
 // The entry of a line of standard input: put into a roll, and what the roll is to read as with it.
-ghost use Rattle.std.specs.Prelude.{◌<◌, ◌≤◌, length};
-
 use roll_add::{Entered, done_entry, file_entry};
-use roll_rules::{RollAnswer, RollNumbers, RollRefusal};
-use std::num::wrapping_add_u32;
+use roll_rules::{Counts, RollRefusal, Sums};
 
 // More bytes than the roll has, with the entry that is added to the whole of it.
 pub const ROLL: usize = 4096;
 
-// The number of an answer that is no refusal.
-pub const LISTED: u32 = 3;
+// What no bytes are to read as.
+pub const NO_ENTRIES: Sums = Sums {
+    entries: 0,
+    filed: 0,
+    done: 0,
+    end: 0,
+};
 
-// A line is its kind, a SP, a job of three digits and, where it has a text, a SP and that.
-const DONE_LINE: usize = 6;
+// What a line says of its entry: how it counts, its job, its text where it has one, and how many bytes it takes.
+#[derive(Clone, Copy)]
+pub struct NewEntry<'a> {
+    counts: Counts,
+    job: &'a [u8],
+    text: Option<&'a [u8]>,
+    bytes: u32,
+}
+
+// The entry that each front is gone on with.
+pub const NEXT: NewEntry<'static> = NewEntry {
+    counts: Counts {
+        filed: true,
+        done: false,
+    },
+    job: b"999",
+    text: Some(b"{x}"),
+    bytes: 12 + 3 + 3,
+};
 
 // The first byte of a roll is before its entries, and no bytes are a roll too.
 pub fn start_of(place: u32) -> u32 {
-    if place == 0 {
-        return 1;
-    }
-    place
+    place.max(1)
 }
 
 // How many bytes more than its line an entry has. A filed one has twelve beside its job and its text, a done one eight beside its job. The
 // lines have four and three.
-fn more_than_line(kind: u8) -> u32 {
-    if kind == b'd' {
-        return 5;
-    }
-    8
+fn more_than_line(counts: Counts) -> u32 {
+    if counts.done { 5 } else { 8 }
 }
 
-// What a roll is to read as with the entry of a line more.
-pub fn with_line(before: RollNumbers, line: &[u8]) -> RollNumbers {
-    if line.len() < DONE_LINE {
-        return before;
+impl<'a> NewEntry<'a> {
+    // A line is its kind, a SP, a job of three digits and, where it has a text, a SP and that. An LF ends it.
+    pub fn of(line: &'a [u8]) -> Option<Self> {
+        let (head, rest) = line.split_first_chunk::<6>()?;
+        let counts = Counts {
+            filed: head[0] == b'f',
+            done: head[0] == b'd',
+        };
+        let line_bytes = u32::try_from(line.len()).ok()?;
+        Some(Self {
+            counts,
+            job: &head[2..5],
+            text: rest.split_last().map(|(_, text)| text),
+            bytes: line_bytes.saturating_add(more_than_line(counts)),
+        })
     }
-    if ROLL < line.len() {
-        return before;
+
+    // Adds the entry to the first bytes of a buffer.
+    pub fn enter(self, roll: &mut [u8; ROLL], used: u32) -> Result<Entered, RollRefusal> {
+        match self.text {
+            Some(text) => file_entry(roll, used as usize, self.job, text),
+            None => done_entry(roll, used as usize, self.job),
+        }
     }
-    let kind = line[0];
-    let bytes = wrapping_add_u32(line.len() as u32, more_than_line(kind));
-    RollNumbers {
-        number: LISTED,
-        entries: wrapping_add_u32(before.entries, 1),
-        filed: wrapping_add_u32(before.filed, (kind == b'f') as u32),
-        done: wrapping_add_u32(before.done, (kind == b'd') as u32),
-        place: wrapping_add_u32(start_of(before.place), bytes),
+
+    // What a roll is to read as with the entry.
+    pub fn added_to(self, before: Sums) -> Sums {
+        Sums {
+            entries: before.entries.saturating_add(1),
+            filed: before.filed.saturating_add(u32::from(self.counts.filed)),
+            done: before.done.saturating_add(u32::from(self.counts.done)),
+            end: start_of(before.end).saturating_add(self.bytes),
+        }
     }
 }
 
-// For a line that has no job.
-fn not_entered() -> Entered {
-    Entered {
-        answer: RollAnswer::Refused(RollRefusal::BadJob),
-        filed: false,
-        done: false,
-    }
-}
-
-fn enter_done(line: &[u8], roll: &mut [u8], used: usize) -> Entered
-    requires { 6 ≤ length line.now }
-{
-    done_entry(roll, used, &line[2..5])
-}
-
-fn enter_filed(line: &[u8], roll: &mut [u8], used: usize) -> Entered
-    requires { 6 < length line.now }
-{
-    let end = line.len() - 1;
-    file_entry(roll, used, &line[2..5], &line[6..end])
-}
-
-// Adds the entry of a line to the first bytes of a buffer.
-pub fn enter(line: &[u8], roll: &mut [u8; ROLL], used: u32) -> Entered {
-    if line.len() < DONE_LINE {
-        return not_entered();
-    }
-    if line.len() == DONE_LINE {
-        return enter_done(line, roll, used as usize);
-    }
-    enter_filed(line, roll, used as usize)
+// What a roll is to read as with the entry of a line more, where the line has one.
+pub fn with_line(before: Sums, line: &[u8]) -> Sums {
+    NewEntry::of(line).map_or(before, |entry| entry.added_to(before))
 }

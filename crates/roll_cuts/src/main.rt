@@ -15,65 +15,50 @@
 
 mod cutting;
 mod entering;
+mod fault;
 
-ghost use Rattle.std.specs.Prelude.{◌<◌, ◌≤◌, length};
-
-use cutting::{
-    ADDED_WRONG, LIST, RIGHT, cut_lines, no_entries, past_line, read_front, right_or_told,
-    same_numbers, tell,
-};
-use entering::{ROLL, enter, with_line};
+use cutting::{LIST, Whole, read_front};
+use entering::{NO_ENTRIES, NewEntry, ROLL, with_line};
+use fault::{Fault, right_or_told};
 use lines::read_input;
-use roll_add::{Entered, with_entry};
-use roll_rules::{RollNumbers, Tally};
-use std::io;
-use telling::say;
+use roll_rules::{RollNumbers, Sums, Tally};
+use telling::{say, say_line};
 
 // More bytes than the lines have.
 const INPUT: usize = 4096;
 
-// What is wrong with an entry that was added: the answer has the numbers expected, and a tally that goes along with them.
-fn wrong_of(entered: Entered, before: RollNumbers, expected: RollNumbers) -> u32 {
-    let tally = with_entry(
-        Tally {
-            filed: before.filed,
-            done: before.done,
-        },
-        entered,
-    );
-    if tally.filed != expected.filed {
-        return ADDED_WRONG;
+fn tally_of(sums: Sums) -> Tally {
+    Tally {
+        filed: sums.filed,
+        done: sums.done,
     }
-    if tally.done != expected.done {
-        return ADDED_WRONG;
-    }
-    let answer = entered.answer;
-    if same_numbers(answer.numbers(), expected) {
-        return RIGHT;
-    }
-    ADDED_WRONG
 }
 
-// Adds the entry of a line to the roll; what the roll is then to read as.
+// Adds the entry of a line to the roll: the answer is to be as expected, and a tally that goes along with it too.
 fn build_line(
-    rt: &(impl Print + Eprint),
     line: &[u8],
     roll: &mut [u8; ROLL],
-    before: RollNumbers,
-) -> RollNumbers {
-    let entered = enter(line, roll, before.place);
-    let expected = with_line(before, line);
-    right_or_told(rt, wrong_of(entered, before, expected), before.place);
-    expected
+    before: Sums,
+    expected: Sums,
+) -> Result<(), Fault> {
+    let entry = NewEntry::of(line).ok_or(Fault::AddedWrong)?;
+    let entered = entry
+        .enter(roll, before.end)
+        .map_err(|_| Fault::AddedWrong)?;
+    let tally = tally_of(before).with_entry(entered.counts);
+    if entered.sums != expected || tally != tally_of(expected) {
+        return Err(Fault::AddedWrong);
+    }
+    Ok(())
 }
 
-fn build(rt: &(impl Print + Eprint), lines: &[u8], roll: &mut [u8; ROLL]) -> RollNumbers {
-    let mut built = no_entries();
-    let mut at = 0;
-    while at < lines.len() {
-        let next = past_line(lines, at);
-        built = build_line(rt, &lines[at..next], roll, built);
-        at = next;
+// Adds the entry of each line to the roll; what the roll is then to read as.
+fn build(rt: &(impl Print + Eprint), lines: &[u8], roll: &mut [u8; ROLL]) -> Sums {
+    let mut built = NO_ENTRIES;
+    for line in lines.split_inclusive(|byte| *byte == b'\n') {
+        let expected = with_line(built, line);
+        right_or_told(rt, build_line(line, roll, built, expected), built.end);
+        built = expected;
     }
     built
 }
@@ -83,41 +68,24 @@ fn tell_all(rt: &(impl Print + Eprint), whole: RollNumbers, right: u32) {
         rt,
         b"entries, jobs filed, jobs done, bytes, cuts that are right:\n",
     );
-    tell(rt, whole.entries);
-    tell(rt, whole.filed);
-    tell(rt, whole.done);
-    tell(rt, whole.place);
-    tell(rt, right);
-}
-
-fn cut_roll(rt: &(impl Print + Eprint), lines: &[u8], roll: &[u8; ROLL], bytes: u32) {
-    let mut places = [0u32; LIST];
-    let whole = read_front(roll, bytes, &mut places);
-    tell_all(
-        rt,
-        whole,
-        cut_lines(rt, lines, roll, &places, b"f 999 {x}\n"),
-    );
+    for count in [whole.entries, whole.filed, whole.done, whole.place, right] {
+        say_line(rt, count);
+    }
 }
 
 fn run(rt: &(impl Print + Eprint), lines: &[u8]) {
     let mut roll = [255u8; ROLL];
+    let mut places = [0u32; LIST];
     let built = build(rt, lines, &mut roll);
-    cut_roll(rt, lines, &roll, built.place);
-}
-
-// Where the input cannot be read, or fills its room and so may go on, standard error says so, and no entry is added.
-fn run_input(rt: &(impl io::Input + Print + Eprint), input: &mut [u8]) {
-    let read = read_input(rt, input);
-    run(rt, &input[0..read]);
-}
-
-// Behind a reference the length of a buffer is known by its type; in `main` a proof would go through its zeros one by one.
-fn lend(rt: &(impl io::Input + Print + Eprint), input: &mut [u8; INPUT]) {
-    run_input(rt, input);
+    let read = read_front(&roll, built.end, &mut places);
+    let whole = Whole {
+        roll: &roll,
+        places: &places,
+    };
+    tell_all(rt, read.into(), whole.cut_lines(rt, lines));
 }
 
 fn main(rt: HostRuntime) {
     let mut input = [0u8; INPUT];
-    lend(&rt, &mut input);
+    run(&rt, read_input(&rt, &mut input));
 }
