@@ -6,21 +6,19 @@ use native.Mathlib.Omega.{arith}
 use borrow.Author.Tests.{le-leb, lt-leb, ne_eqb}
 use lib.ListN.{length}
 use Rattle.kinds.specs.Limits.{cell_limit, standard}
-use Rattle.plan.specs.declared.ReadAnswer.{ReadAnswer}
 use Rattle.plan.specs.declared.TextFault.{TextFault}
 use Rattle.plan.specs.declared.Unread.TheVariants.{Text}
 use Rattle.plan.specs.Outcomes.{write}
 use Rattle.plan.specs.Pieces.{placed}
 use Rattle.plan.specs.Plan.{Plan, bare, cells, print}
-use Rattle.plan.specs.Read.{as_read, read_family, read_outcome}
+use Rattle.plan.specs.Read.{as_read, read_family, read_outcome, ReadAnswer}
 use Rattle.plan.specs.Reading.{UNREAD, accept, fit}
 use Rattle.plan.proofs.ReadBack.{bare-placed}
 use Rattle.numbers.specs.declared.Numbers.{Numbers}
 use Rattle.numbers.specs.Numbers.{fault_number, fault_numbers, given_numbers, read_numbers}
 use Rattle.numbers.proofs.Told.{fault_number_is}
-use Rattle.words_meaning.specs.Answers.{link_numbers}
+use Rattle.words_meaning.specs.Answers.{link_numbers, LinkAnswer}
 use Rattle.words_meaning.specs.Linking.{Word}
-use Rattle.words_meaning.specs.declared.LinkAnswer.{LinkAnswer}
 use Rattle.words_meaning.proofs.Listing.{link_again}
 use Rattle.read.specs.Calls.{ReadsOut}
 use Rattle.words_link.specs.Calls.{Links}

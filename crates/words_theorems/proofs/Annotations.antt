@@ -2,7 +2,7 @@
 use Prim.Native.Nat.{ℕ}
 use mathlib.Core.Path.{◌≡◌, refl, ap, ap₂, sym, subst, ◌∙◌}
 use mathlib.Core.Bool.{Bool, true, false, cond, ◌||◌}
-use Rattle.std.specs.Prelude.{Option, Some as some}
+use Rattle.std.specs.Prelude.{Option, Some}
 use mathlib.Core.List.{List, [], ◌∷◌, map}
 use native.Mathlib.Omega.{arith}
 use Rattle.kinds.specs.Limits.{cell_limit, standard, token_limit}
@@ -18,10 +18,9 @@ use Rattle.plan.proofs.ReadBack.{bare-placed, read-print}
 use Rattle.plan.proofs.Refusals.{read_faultless}
 use Rattle.plan.proofs.Accepting.{standard_roomy}
 use Rattle.stored.specs.Same.{same}
-use Rattle.words_meaning.specs.Answers.{link_numbers, link_outcome}
+use Rattle.words_meaning.specs.Answers.{link_numbers, link_outcome, LinkAnswer}
 use Rattle.words_meaning.specs.Linking.{Word, holds, in_place, link_plan, listed, stands_for, stock_token, used}
 use Rattle.words_meaning.specs.Stock.{fits, right}
-use Rattle.words_meaning.specs.declared.LinkAnswer.{LinkAnswer}
 use Rattle.words_meaning.proofs.Listing.{Right, right-word}
 use Rattle.words_link.specs.Calls.{Links}
 use Rattle.demands.specs.Terms.{saved}
@@ -114,9 +113,9 @@ stands_alike [] r t = refl
 stands_alike (w ∷ older) (one, r) t = go (same t (stock_token w)) (stands_alike older r)
   where
     go : (named : Bool) → ((u : List ℕ) → under bare (stands_for token_limit (map without_its_marks older) u) ≡ under bare (stands_for token_limit older u))
-        → under bare (cond named (some (linked_by (map without_its_marks older) (plan_of token_limit (without_marks OUTSIDE w.text)))) (stands_for token_limit (map without_its_marks older) t))
-        ≡ under bare (cond named (some (linked_by older (plan_of token_limit w.text))) (stands_for token_limit older t))
-    go true earlier = ap some (linked_alike (map without_its_marks older) older earlier _ _ (its_items w (its_text older w one)))
+        → under bare (cond named (Some (linked_by (map without_its_marks older) (plan_of token_limit (without_marks OUTSIDE w.text)))) (stands_for token_limit (map without_its_marks older) t))
+        ≡ under bare (cond named (Some (linked_by older (plan_of token_limit w.text))) (stands_for token_limit older t))
+    go true earlier = ap Some (linked_alike (map without_its_marks older) older earlier _ _ (its_items w (its_text older w one)))
     go false earlier = earlier t
 
 -- a word's text with annotations links as without them: every text gets the same answer, and every output the same bytes

@@ -8,6 +8,8 @@ use borrow.Author.Tests.{leb-true, leb-false, ltb-true, ltb-false}
 use lib.Dec.{leb, ltb}
 use lib.ListN.{length, drop}
 use lib.Seq.{drop-append_seam, take-append_seam}
+use Rattle.plan.specs.Read.{sized}
+use Rattle.std.specs.Prelude.{Ok, Err}
 use Rattle.kinds.specs.Limits.{cell_limit, standard, text_limit, token_limit}
 use Rattle.plan.specs.declared.TextFault.{TextFault}
 use Rattle.plan.specs.Outcomes.{Outcome, REFUSES, write}
@@ -17,11 +19,9 @@ use Rattle.plan.proofs.Accepting.{text_short, text_too_long}
 use Rattle.plan.proofs.Outcomes.{write_gives, wrote_once}
 use Rattle.plan.proofs.Refusals.{faulty_read, plan_injective, read_faulty}
 use Rattle.kinds.proofs.Tests.{cond_cases, never}
-use Rattle.words_meaning.specs.Answers.{link_by, link_family, link_numbers, link_read, link_outcome, linked_within}
+use Rattle.words_meaning.specs.Answers.{link_by, link_family, link_numbers, link_outcome, link_read, LinkAnswer, linked_within}
 use Rattle.words_meaning.specs.Linking.{Word}
 use Rattle.words_meaning.specs.Stock.{LIST_FAULT as LIST_FAULT, Stock, WORDS, stock}
-use Rattle.words_meaning.specs.declared.LinkAnswer.{LinkAnswer}
-use Rattle.words_meaning.specs.declared.LinkAnswer.TheVariants.{Linked, Refused}
 use Rattle.words_meaning.specs.declared.LinkRefusal.{LinkRefusal}
 use Rattle.words_meaning.specs.declared.LinkRefusal.TheVariants.{BadWords, Text, Overfull, OutShort}
 use Rattle.words_link.specs.Calls.{Links}
@@ -63,15 +63,15 @@ fault_or_plan x y = never (let e : FAULT _ ≡ PLAN _ = sym (fault_found x) ∙ 
 
 -- The cases of a call.
 pub data LinkCase (list text out : List ℕ) : LinkAnswer → List ℕ → Type 0 where
-  bad_list : {rank : ℕ} → BadList list rank → LinkCase list text out (Refused (BadWords rank)) out
-  bad_text : {ws : List Word} {f : TextFault} → HasWords list ws → HasFault text f → LinkCase list text out (Refused (Text f)) out
+  bad_list : {rank : ℕ} → BadList list rank → LinkCase list text out (Err (BadWords rank)) out
+  bad_text : {ws : List Word} {f : TextFault} → HasWords list ws → HasFault text f → LinkCase list text out (Err (Text f)) out
   over_full : {ws : List Word} {p : Plan ℕ} → HasWords list ws → HasPlan text p → cell_limit < cells (linked_by ws p)
-      → LinkCase list text out (Refused Overfull) out
+      → LinkCase list text out (Err Overfull) out
   out_short : {ws : List Word} {p : Plan ℕ} → HasWords list ws → HasPlan text p → cells (linked_by ws p) ≤ cell_limit
-      → length out < length (print (linked_by ws p)) → LinkCase list text out (Refused (OutShort (length (print (linked_by ws p))))) out
+      → length out < length (print (linked_by ws p)) → LinkCase list text out (Err (OutShort (length (print (linked_by ws p))))) out
   is_linked : {ws : List Word} {p : Plan ℕ} → HasWords list ws → HasPlan text p → cells (linked_by ws p) ≤ cell_limit
       → length (print (linked_by ws p)) ≤ length out
-      → LinkCase list text out (Linked (cells (linked_by ws p)) (length (print (linked_by ws p))))
+      → LinkCase list text out (Ok (sized (cells (linked_by ws p)) (length (print (linked_by ws p)))))
       (print (linked_by ws p) ++ drop (length (print (linked_by ws p))) out)
 
 link_cases : (list text out : List ℕ) → let w = write link_family (link_outcome standard list text) out in LinkCase list text out w.answer w.output
@@ -149,7 +149,7 @@ module _ {list text out : List ℕ} {r : LinkAnswer} {out' : List ℕ} (call : L
     linked_as h = go (link_case call) h
       where
         its : (vs : List Word) (q : Plan ℕ) → cells (linked_by vs q) ≤ cell_limit → length (print (linked_by vs q)) ≤ length out
-            → let t = print (linked_by vs q) in LinkedAs out vs q (link_numbers (Linked (cells (linked_by vs q)) (length t))) (t ++ drop (length t) out)
+            → let t = print (linked_by vs q) in LinkedAs out vs q (link_numbers (Ok (sized (cells (linked_by vs q)) (length t)))) (t ++ drop (length t) out)
         its vs q few fits =
             let t = print (linked_by vs q) in
             record {
@@ -167,7 +167,7 @@ module _ {list text out : List ℕ} {r : LinkAnswer} {out' : List ℕ} (call : L
         go (out_short g x few short) h = absurd (omega arith)
         go (is_linked {ws = vs} {p = q} g x few fits) h =
             let t = print (linked_by vs q) in
-            let told = link_numbers (Linked (cells (linked_by vs q)) (length t)) in
+            let told = link_numbers (Ok (sized (cells (linked_by vs q)) (length t))) in
             subst (λ v. LinkedAs out v p told (t ++ drop (length t) out)) (one-stock g has)
             (subst (λ y. LinkedAs out vs y told (t ++ drop (length t) out)) (one_plan x reads) (its vs q few fits))
 

@@ -7,10 +7,9 @@ use Rattle.kinds.specs.Limits.{token_limit}
 use Rattle.numbers.specs.declared.Numbers.{Numbers}
 use Rattle.plan.specs.Plan.{Plan, cells}
 use Rattle.plan.specs.Reading.{plan_of}
-use Rattle.words_meaning.specs.Answers.{link_numbers}
+use Rattle.words_meaning.specs.Answers.{link_numbers, LinkAnswer}
 use Rattle.words_meaning.specs.Linking.{Word, listed, stands_for, stock_token}
 use Rattle.words_meaning.specs.Places.{cells_put, cells_by, token_cells}
-use Rattle.words_meaning.specs.declared.LinkAnswer.{LinkAnswer}
 use Rattle.words_meaning.proofs.Cells.{cells-link}
 use Rattle.words_meaning.proofs.Listing.{stands_none}
 use Rattle.words_link.specs.Calls.{Links}

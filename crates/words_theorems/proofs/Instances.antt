@@ -5,6 +5,8 @@ use mathlib.Core.Path.{refl}
 use mathlib.Core.List.{List, [], ◌∷◌, ◌++◌, map}
 use native.Mathlib.Omega.{arith}
 use lib.ListN.{length, replicate, length-replicate}
+use Rattle.plan.specs.Read.{sized}
+use Rattle.std.specs.Prelude.{Ok, Err}
 use Rattle.kinds.specs.Limits.{text_limit}
 use Rattle.plan.specs.declared.TextFault.TheVariants.{TooLong, Unmatched}
 use Rattle.plan.specs.Plan.{Plan}
@@ -15,7 +17,6 @@ use Rattle.words_meaning.specs.Answers.{link_numbers, link_refusal_numbers}
 use Rattle.plan.proofs.Worked.{read_answer}
 use Rattle.words_meaning.proofs.Worked.{worked_lists}
 use Rattle.words_meaning.specs.Linking.{Word, holds}
-use Rattle.words_meaning.specs.declared.LinkAnswer.TheVariants.{Linked, Refused}
 use Rattle.words_meaning.specs.declared.LinkRefusal.TheVariants.{BadWords, Text, Overfull, OutShort}
 use Rattle.words_link.specs.Calls.{Links}
 use Rattle.turnip.specs.Arrays.{InArray, five_of}
@@ -60,18 +61,18 @@ of name text = record { name = name; text = text }
 abbrev annotated : (text : List ℕ) → List ℕ
 annotated text = 1 ∷ 0 ∷ 0 ∷ 0 ∷ in_list (bytes "x") text
 
-pub calls : Links list text out (Linked 9 22) (bytes "[{y}][{y}][[{y}]]{%q}a" ++ 7 ∷ 7 ∷ [])
-    × Links list text [] (Refused (OutShort 22)) []
-    × Links list (bytes "{y}]") out (Refused (Text (Unmatched (place 3)))) out
-    × Links (1 ∷ 0 ∷ 0 ∷ []) text out (Refused (BadWords 0)) out
-    × Links (1 ∷ 1 ∷ 0 ∷ 0 ∷ []) text out (Refused (BadWords 256)) out
-    × Links (1 ∷ 0 ∷ 0 ∷ 0 ∷ 1 ∷ []) text out (Refused (BadWords 0)) out
-    × Links (2 ∷ 0 ∷ 0 ∷ 0 ∷ in_list (bytes "x") [] ++ in_list (bytes "x") []) text out (Refused (BadWords 1)) out
-    × Links (no_words ++ 0 ∷ []) text out (Refused (BadWords 0)) out
-    × Links big (uses 65) out (Refused Overfull) out
-    × Links (2 ∷ 0 ∷ 0 ∷ 0 ∷ in_list (bytes "x") (bytes "[{%z}]") ++ in_list (bytes "z") []) text out (Refused (BadWords 1)) out
-    × Links too_big (bytes "{%w}") out (Linked 1 1) (97 ∷ replicate 23 7)
-    × Links (annotated (bytes "{&}{y}")) (bytes "{&a}{%x}") out (Linked 1 3) (bytes "{y}" ++ replicate 21 7)
+pub calls : Links list text out (Ok (sized 9 22)) (bytes "[{y}][{y}][[{y}]]{%q}a" ++ 7 ∷ 7 ∷ [])
+    × Links list text [] (Err (OutShort 22)) []
+    × Links list (bytes "{y}]") out (Err (Text (Unmatched (place 3)))) out
+    × Links (1 ∷ 0 ∷ 0 ∷ []) text out (Err (BadWords 0)) out
+    × Links (1 ∷ 1 ∷ 0 ∷ 0 ∷ []) text out (Err (BadWords 256)) out
+    × Links (1 ∷ 0 ∷ 0 ∷ 0 ∷ 1 ∷ []) text out (Err (BadWords 0)) out
+    × Links (2 ∷ 0 ∷ 0 ∷ 0 ∷ in_list (bytes "x") [] ++ in_list (bytes "x") []) text out (Err (BadWords 1)) out
+    × Links (no_words ++ 0 ∷ []) text out (Err (BadWords 0)) out
+    × Links big (uses 65) out (Err Overfull) out
+    × Links (2 ∷ 0 ∷ 0 ∷ 0 ∷ in_list (bytes "x") (bytes "[{%z}]") ++ in_list (bytes "z") []) text out (Err (BadWords 1)) out
+    × Links too_big (bytes "{%w}") out (Ok (sized 1 1)) (97 ∷ replicate 23 7)
+    × Links (annotated (bytes "{&}{y}")) (bytes "{&a}{%x}") out (Ok (sized 1 3)) (bytes "{y}" ++ replicate 21 7)
 unfolding worked_lists uses
 calls = (
   record { wrote = record { answer = refl; output = refl } },
@@ -118,8 +119,8 @@ faulty_words = (
 )
 
 -- `HasWords`, with `WholeWords` in it, `HasPlan`, and what a call that links answers and leaves
-pub a_linked_call : IsLinked (link_numbers (Linked 9 22)) × ((ws : List Word) × (p : Plan ℕ) × HasWords list ws × HasPlan text p
-    × LinkedAs out ws p (link_numbers (Linked 9 22)) (bytes "[{y}][{y}][[{y}]]{%q}a" ++ 7 ∷ 7 ∷ []))
+pub a_linked_call : IsLinked (link_numbers (Ok (sized 9 22))) × ((ws : List Word) × (p : Plan ℕ) × HasWords list ws × HasPlan text p
+    × LinkedAs out ws p (link_numbers (Ok (sized 9 22))) (bytes "[{y}][{y}][[{y}]]{%q}a" ++ 7 ∷ 7 ∷ []))
 a_linked_call =
     let (ws, p, has, reads) = linked_by_words calls.0 refl in (refl, (ws, p, has, reads, linked_as calls.0 has reads refl))
 
@@ -139,9 +140,9 @@ too_long n long = row_11 (omega (arith, length-replicate {A = ℕ} n 32))
 
 -- five numbers stored over the C interface
 pub five_in_array : InArray (λ r. five_of (link_numbers r)) (λ r. Links list text out r (bytes "[{y}][{y}][[{y}]]{%q}a" ++ 7 ∷ 7 ∷ [])) (3 ∷ 0 ∷ 9 ∷ 22 ∷ 0 ∷ [])
-five_in_array = record { answer = Linked 9 22; did = calls.0; told = refl }
+five_in_array = record { answer = Ok (sized 9 22); did = calls.0; told = refl }
 
 -- and the whole table as one statement, in both of its ways
-pub as_asked : AsAsked list text out (link_numbers (Linked 9 22)) (bytes "[{y}][{y}][[{y}]]{%q}a" ++ 7 ∷ 7 ∷ [])
+pub as_asked : AsAsked list text out (link_numbers (Ok (sized 9 22))) (bytes "[{y}][{y}][[{y}]]{%q}a" ++ 7 ∷ 7 ∷ [])
     × AsAsked list text [] (link_refusal_numbers (OutShort 22)) []
 as_asked = (link_as_asked calls.0, link_as_asked calls.1)

@@ -12,9 +12,8 @@ use Rattle.plan.proofs.Faultless.{marks_then, faultless_then}
 use Rattle.plan.proofs.Plans.{allowed_then, cells-then, print-then}
 use Rattle.plan.proofs.Reached.{text-read}
 use Rattle.plan.proofs.ReadBack.{print_injective}
-use Rattle.words_meaning.specs.Answers.{link_numbers}
+use Rattle.words_meaning.specs.Answers.{link_numbers, LinkAnswer}
 use Rattle.words_meaning.specs.Linking.{Word, stands_for}
-use Rattle.words_meaning.specs.declared.LinkAnswer.{LinkAnswer}
 use Rattle.words_meaning.proofs.Linked.{link-then}
 use Rattle.words_link.specs.Calls.{Links}
 use Rattle.demands.specs.Terms.{saved}

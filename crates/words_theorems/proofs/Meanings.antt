@@ -3,7 +3,7 @@
 use Prim.Native.Nat.{ℕ, ◌≤◌, ◌<◌}
 use mathlib.Core.Path.{◌≡◌, refl, ap, ap₂, sym, ◌∙◌}
 use mathlib.Core.Bool.{◌||◌}
-use Rattle.std.specs.Prelude.{Option, None as none, Some as some}
+use Rattle.std.specs.Prelude.{Option, None, Some}
 use mathlib.Core.List.{List, []}
 use native.Mathlib.Omega.{arith}
 use borrow.Author.Tests.{lt-leb}
@@ -77,8 +77,8 @@ module _ {L M : Type 0} (f : L → M) where
   relabel-in_place : (s : Option (Plan L)) (l : L) (t : List ℕ) (p : Plan L)
       → relabel f (in_place s l t p) ≡ in_place (under (relabel f) s) (f l) t (relabel f p)
   unfolding relabel in_place under
-  relabel-in_place none l t p = refl
-  relabel-in_place (some q) l t p = relabel-then f q p
+  relabel-in_place None l t p = refl
+  relabel-in_place (Some q) l t p = relabel-then f q p
 
   -- and are linked to the same items
   pub relabel-link : (stands : List ℕ → Option (Plan L)) (p : Plan L)

@@ -8,9 +8,8 @@ use lib.ListN.{drop, length, take-append-drop}
 use Rattle.numbers.specs.declared.Numbers.{Numbers}
 use Rattle.plan.specs.Plan.{Plan, print}
 use Rattle.plan.proofs.Outcomes.{wrote_once}
-use Rattle.words_meaning.specs.Answers.{link_family, link_numbers, link_refusal_numbers}
+use Rattle.words_meaning.specs.Answers.{link_family, link_numbers, link_refusal_numbers, LinkAnswer}
 use Rattle.words_meaning.specs.Linking.{Word}
-use Rattle.words_meaning.specs.declared.LinkAnswer.{LinkAnswer}
 use Rattle.words_link.specs.Calls.{Links}
 use Rattle.turnip.specs.Arrays.{InArray, five_of}
 use Rattle.demands.specs.Terms.{IsRefusal}

@@ -3,7 +3,7 @@
 use Prim.Native.Nat.{ℕ, ◌≤◌}
 use mathlib.Core.Path.{◌≡◌, refl, ap, sym, ◌∙◌}
 use mathlib.Core.Bool.{true}
-use Rattle.std.specs.Prelude.{Some as some}
+use Rattle.std.specs.Prelude.{Some}
 use mathlib.Core.List.{List, [], ◌∷◌, ◌++◌}
 use native.Mathlib.Omega.{arith}
 use borrow.Author.Tests.{leb-true}
@@ -19,10 +19,9 @@ use Rattle.plan.proofs.Plans.{then_end}
 use Rattle.plan.proofs.Accepting.{print_accepted, standard_roomy}
 use Rattle.kinds.proofs.Tests.{and_true}
 use Rattle.plan.proofs.Tokens.{allowed-parts}
-use Rattle.words_meaning.specs.Answers.{linked_within}
+use Rattle.words_meaning.specs.Answers.{LinkAnswer, linked_within}
 use Rattle.words_meaning.specs.Linking.{Word, in_place, link_plan, stands_for, stock_token}
 use Rattle.words_meaning.specs.Stock.{is_name}
-use Rattle.words_meaning.specs.declared.LinkAnswer.{LinkAnswer}
 use Rattle.words_meaning.proofs.Listing.{Right, RightWord, right-word, stands_word}
 use Rattle.words_link.specs.Calls.{Links}
 use Rattle.words_theorems.specs.Lists.{HasWords}
@@ -61,7 +60,7 @@ module _ {list : List ℕ} (newer older : List Word) (w : Word) (has : HasWords 
 
   -- "A word's linked plan is its text's plan linked by the words before it;"
   -- a theorem of stock words
-  pub word-stands_for : stands_for token_limit (newer ++ w ∷ older) (stock_token w) ≡ some (linked_by older (plan_of token_limit w.text))
+  pub word-stands_for : stands_for token_limit (newer ++ w ∷ older) (stock_token w) ≡ Some (linked_by older (plan_of token_limit w.text))
   word-stands_for = stands_word standard newer older w (words_right has)
 
   -- words that stand later change nothing for it

@@ -4,17 +4,16 @@ use Prim.Native.Nat.{ℕ}
 use mathlib.Core.Path.{◌≡◌, refl, subst}
 use mathlib.Core.Logic.{◌↔◌}
 use mathlib.Core.List.{List}
+use Rattle.plan.specs.Read.{ReadAnswer}
 use Rattle.kinds.specs.Limits.{cell_limit, standard}
-use Rattle.plan.specs.declared.ReadAnswer.{ReadAnswer}
 use Rattle.plan.specs.declared.TextFault.{TextFault}
 use Rattle.plan.specs.declared.Unread.{Unread}
 use Rattle.plan.specs.declared.Unread.TheVariants.{Text}
 use Rattle.plan.specs.Refusals.{Unreadable, bad_text, faulty, overfull, too_long}
 use Rattle.kinds.proofs.Tests.{never}
 use Rattle.numbers.specs.Numbers.{fault_numbers, read_numbers}
-use Rattle.words_meaning.specs.Answers.{link_numbers}
+use Rattle.words_meaning.specs.Answers.{link_numbers, LinkAnswer}
 use Rattle.words_meaning.specs.Linking.{Word}
-use Rattle.words_meaning.specs.declared.LinkAnswer.{LinkAnswer}
 use Rattle.read.specs.Calls.{ReadsOut}
 use Rattle.words_link.specs.Calls.{Links}
 use Rattle.demands.proofs.PassedOn.{text-fault_told}

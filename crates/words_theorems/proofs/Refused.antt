@@ -6,6 +6,7 @@ use mathlib.Core.Logic.{◌↔◌, ◌⊎◌, inl, inr}
 use mathlib.Core.List.{List}
 use native.Mathlib.Omega.{arith}
 use lib.ListN.{length}
+use Rattle.std.specs.Prelude.{Err}
 use Rattle.kinds.specs.Limits.{cell_limit, standard}
 use Rattle.plan.specs.declared.TextFault.{TextFault}
 use Rattle.plan.specs.Plan.{Plan, cells, print}
@@ -14,10 +15,8 @@ use Rattle.kinds.proofs.Tests.{never}
 use Rattle.numbers.specs.declared.Numbers.{Numbers}
 use Rattle.numbers.specs.Numbers.{fault_numbers, outshort_numbers}
 use Rattle.numbers.proofs.Told.{fault_number_is}
-use Rattle.words_meaning.specs.Answers.{link_family, link_numbers, link_refusal_numbers, link_outcome}
+use Rattle.words_meaning.specs.Answers.{link_family, link_numbers, link_outcome, link_refusal_numbers, LinkAnswer}
 use Rattle.words_meaning.specs.Linking.{Word}
-use Rattle.words_meaning.specs.declared.LinkAnswer.{LinkAnswer}
-use Rattle.words_meaning.specs.declared.LinkAnswer.TheVariants.{Refused}
 use Rattle.words_meaning.specs.declared.LinkRefusal.{LinkRefusal}
 use Rattle.words_meaning.specs.declared.LinkRefusal.TheVariants.{BadWords, Text, Overfull, OutShort}
 use Rattle.words_link.specs.Calls.{Links}
@@ -54,16 +53,16 @@ module _ {list text : List ℕ} {vs ws : List Word} {p q : Plan ℕ} (g : HasWor
   same_length = ap₂ (λ v r. length (print (linked_by v r))) (one-stock g h) (one_plan x y)
 
 module _ {list text out : List ℕ} {r : LinkAnswer} {out' : List ℕ} (call : Links list text out r out') where
-  refused_so : {x : LinkRefusal} → LinkRefuses list text out x → r ≡ Refused x
+  refused_so : {x : LinkRefusal} → LinkRefuses list text out x → r ≡ Err x
   refused_so row = go (link_case call) row
     where
-      go : {r : LinkAnswer} {out' : List ℕ} {x : LinkRefusal} → LinkCase list text out r out' → LinkRefuses list text out x → r ≡ Refused x
-      go (bad_list a) (row_26 b) = ap (λ k. Refused (BadWords k)) (one_rank a b)
+      go : {r : LinkAnswer} {out' : List ℕ} {x : LinkRefusal} → LinkCase list text out r out' → LinkRefuses list text out x → r ≡ Err x
+      go (bad_list a) (row_26 b) = ap (λ k. Err (BadWords k)) (one_rank a b)
       go (bad_list a) (rows_11_to_16 h b) = not-both a h
       go (bad_list a) (row_17 h y over) = not-both a h
       go (bad_list a) (row_18 h y few short) = not-both a h
       go (bad_text g a) (row_26 b) = not-both b g
-      go (bad_text g a) (rows_11_to_16 h b) = ap (λ f. Refused (Text f)) (one-fault a b)
+      go (bad_text g a) (rows_11_to_16 h b) = ap (λ f. Err (Text f)) (one-fault a b)
       go (bad_text g a) (row_17 h y over) = fault_or_plan a y
       go (bad_text g a) (row_18 h y few short) = fault_or_plan a y
       go (over_full g x over) (row_26 b) = not-both b g
@@ -73,16 +72,16 @@ module _ {list text out : List ℕ} {r : LinkAnswer} {out' : List ℕ} (call : L
       go (out_short g x few short) (row_26 b) = not-both b g
       go (out_short g x few short) (rows_11_to_16 h b) = fault_or_plan b x
       go (out_short g x few short) (row_17 h y over) = absurd (omega (arith, same-cells g h x y))
-      go (out_short g x few short) (row_18 h y few' short') = ap (λ n. Refused (OutShort n)) (same_length g h x y)
+      go (out_short g x few short) (row_18 h y few' short') = ap (λ n. Err (OutShort n)) (same_length g h x y)
       go (is_linked g x few fits) (row_26 b) = not-both b g
       go (is_linked g x few fits) (rows_11_to_16 h b) = fault_or_plan b x
       go (is_linked g x few fits) (row_17 h y over) = absurd (omega (arith, same-cells g h x y))
       go (is_linked g x few fits) (row_18 h y few' short) = absurd (omega (arith, same_length g h x y))
 
-  refused_why : {x : LinkRefusal} → r ≡ Refused x → LinkRefuses list text out x
+  refused_why : {x : LinkRefusal} → r ≡ Err x → LinkRefuses list text out x
   refused_why {x} e = go (link_case call) e
     where
-      go : {r : LinkAnswer} {out' : List ℕ} → LinkCase list text out r out' → r ≡ Refused x → LinkRefuses list text out x
+      go : {r : LinkAnswer} {out' : List ℕ} → LinkCase list text out r out' → r ≡ Err x → LinkRefuses list text out x
       go (bad_list {rank} bad) e = let is : BadWords rank ≡ x = cc in subst (LinkRefuses list text out) is (row_26 bad)
       go (bad_text {f = f} has bad) e = let is : Text f ≡ x = cc in subst (LinkRefuses list text out) is (rows_11_to_16 has bad)
       go (over_full has reads over) e = let is : Overfull ≡ x = cc in subst (LinkRefuses list text out) is (row_17 has reads over)

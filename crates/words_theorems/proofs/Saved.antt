@@ -7,24 +7,21 @@ use mathlib.Core.Bool.{true, false}
 use mathlib.Core.List.{List, ◌∷◌, ◌++◌}
 use native.Mathlib.Omega.{arith}
 use lib.ListN.{length}
+use Rattle.std.specs.Prelude.{Ok}
 use Rattle.kinds.specs.Limits.{cell_limit, standard, token_limit}
-use Rattle.plan.specs.declared.ReadAnswer.{ReadAnswer}
-use Rattle.plan.specs.declared.ReadAnswer.TheVariants.{Read}
 use Rattle.plan.specs.Pieces.{bares, pieces, placed}
 use Rattle.plan.specs.Plan.{Plan, bare, cells, print}
-use Rattle.plan.specs.Read.{acceptable}
+use Rattle.plan.specs.Read.{acceptable, ReadAnswer, sized}
 use Rattle.plan.specs.Reading.{ACCEPTED, accept}
 use Rattle.plan.proofs.Pieces.{pieces-relabel}
 use Rattle.plan.proofs.Plans.{cells-relabel, print-relabel}
 use Rattle.plan.proofs.ReadBack.{bare-placed}
 use Rattle.numbers.specs.declared.Numbers.{Numbers}
-use Rattle.answers.specs.declared.RunAnswer.{RunAnswer}
-use Rattle.answers.specs.Run.{run_numbers}
+use Rattle.answers.specs.Run.{run_numbers, RunAnswer}
 use Rattle.answers.specs.Slots.{total}
-use Rattle.words_meaning.specs.Answers.{link_numbers}
+use Rattle.words_meaning.specs.Answers.{link_numbers, LinkAnswer}
 use Rattle.words_meaning.specs.Linking.{Word, holds, listed, stands_for, stock_token}
 use Rattle.words_meaning.specs.Places.{linked_pieces}
-use Rattle.words_meaning.specs.declared.LinkAnswer.{LinkAnswer}
 use Rattle.words_meaning.proofs.Flat.{pieces-link}
 use Rattle.words_meaning.proofs.Listing.{listed-there, no_listed_token}
 use Rattle.read.specs.Calls.{ReadsOut}
@@ -73,11 +70,11 @@ module _ {list text out : List ℕ} {r : LinkAnswer} {out' : List ℕ} (call : L
   -- and READ with an output that is long enough tells the cells and the length that LINK told
   -- a theorem of stock words
   pub saved_read : {o : List ℕ} {s : ReadAnswer} {o' : List ℕ} → ReadsOut (saved (link_numbers r) out') o s o' → (link_numbers r).length ≤ length o
-      → s ≡ Read (link_numbers r).cells (link_numbers r).length
+      → s ≡ Ok (sized (link_numbers r).cells (link_numbers r).length)
   saved_read again room =
-      let sized : length (print (bare (linked_by ws p))) ≡ (link_numbers r).length = ap length (print-relabel (λ l. tt {0}) (linked_by ws p)) ∙ sym its_length in
+      let long : length (print (bare (linked_by ws p))) ≡ (link_numbers r).length = ap length (print-relabel (λ l. tt {0}) (linked_by ws p)) ∙ sym its_length in
       room_lent with_the_most again (omega arith)
-      ∙ ap₂ Read (cells-relabel (λ l. tt {0}) (linked_by ws p) ∙ sym its_cells) sized
+      ∙ ap₂ (λ c l. Ok (sized c l)) (cells-relabel (λ l. tt {0}) (linked_by ws p) ∙ sym its_cells) long
 
   reads_linked : {q : Bare} → Reads cell_limit (saved (link_numbers r) out') q → bare (linked_by ws p) ≡ q
   reads_linked again = reads_one with_the_most again
