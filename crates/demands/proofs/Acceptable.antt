@@ -7,15 +7,14 @@ use mathlib.Core.Bool.{true, false}
 use mathlib.Core.List.{List, []}
 use native.Mathlib.Omega.{arith}
 use lib.ListN.{length}
+use Rattle.std.specs.Prelude.{Ok}
 use Rattle.kinds.specs.Limits.{cell_limit, standard}
-use Rattle.plan.specs.declared.ReadAnswer.{ReadAnswer}
-use Rattle.plan.specs.declared.ReadAnswer.TheVariants.{Read}
 use Rattle.numbers.specs.declared.Numbers.{Numbers}
 use Rattle.plan.specs.declared.ReadRefusal.TheVariants.{NotRead}
 use Rattle.plan.specs.declared.Unread.{Unread}
 use Rattle.plan.specs.Plan.{bare, block, cells, end, operator, print, relabel, token}
 use Rattle.plan.specs.Reading.{OUTSIDE, accept, fit, read_from, read_text, without_marks}
-use Rattle.plan.specs.Read.{acceptable}
+use Rattle.plan.specs.Read.{ReadAnswer, acceptable, sized}
 use Rattle.plan.specs.Refusals.{Unreadable}
 use Rattle.plan.proofs.Acceptable.{acceptable_plan, accepted_acceptable, refused_unacceptable, unacceptable_refused}
 use Rattle.plan.proofs.Accepting.{unread_iff}
@@ -96,13 +95,13 @@ module _ {text : List ℕ} {p : Bare} (reads : Reads cell_limit text p) where
   -- an output that is long enough gives READ, with the cells and the length
   -- a theorem of acceptable texts
   pub room_lent : {out : List ℕ} {r : ReadAnswer} {out' : List ℕ} → ReadsOut text out r out' → length (print p) ≤ length out
-      → r ≡ Read (cells p) (length (print p))
+      → r ≡ Ok (sized (cells p) (length (print p)))
   room_lent {out} call room = go (read_case call)
     where
-      go : {r : ReadAnswer} {out' : List ℕ} → ReadCase text out r out' → r ≡ Read (cells p) (length (print p))
+      go : {r : ReadAnswer} {out' : List ℕ} → ReadCase text out r out' → r ≡ Ok (sized (cells p) (length (print p)))
       go (bad_text g) = reads_not_unreadable reads g
       go (out_short g short) = absurd (omega (arith, ap (λ (q : Bare). length (print q)) (reads_one g reads)))
-      go (is_read g fits) = ap (λ (q : Bare). Read (cells q) (length (print q))) (reads_one g reads)
+      go (is_read g fits) = ap (λ (q : Bare). Ok (sized (cells q) (length (print q)))) (reads_one g reads)
 
 -- any other refusal stands whatever the output
 -- a theorem of acceptable texts
@@ -115,7 +114,7 @@ refused_whatever_the_output call call₂ u = (
 
 -- A version that refuses all texts: the empty text is never refused, nor is any acceptable text with room for it.
 -- a theorem of acceptable texts
-pub empty_text-read : {out : List ℕ} {r : ReadAnswer} {out' : List ℕ} → ReadsOut [] out r out' → r ≡ Read 0 0
+pub empty_text-read : {out : List ℕ} {r : ReadAnswer} {out' : List ℕ} → ReadsOut [] out r out' → r ≡ Ok (sized 0 0)
 unfolding accept read_text read_from fit cells print relabel
 empty_text-read call =
     let reads : Reads cell_limit [] end = record { within = omega arith; placed = end; accepted = refl; same = refl } in

@@ -5,15 +5,13 @@ use Prim.Native.Nat.{ℕ}
 use mathlib.Core.Path.{◌≡◌, ap, sym, subst, ◌∙◌}
 use mathlib.Core.List.{List}
 use Rattle.kinds.specs.Limits.{cell_limit, standard}
-use Rattle.plan.specs.declared.ReadAnswer.{ReadAnswer}
 use Rattle.plan.specs.Pieces.{placed}
 use Rattle.plan.specs.Reading.{HoldsAnnotation, OUTSIDE, without_marks}
 use Rattle.plan.specs.Outcomes.{Wrote}
-use Rattle.plan.specs.Read.{read_family}
+use Rattle.plan.specs.Read.{ReadAnswer, read_family}
 use Rattle.plan.proofs.Outcomes.{wrote_once}
 use Rattle.numbers.specs.Numbers.{read_numbers}
-use Rattle.answers.specs.declared.RunAnswer.{RunAnswer}
-use Rattle.answers.specs.Run.{run_family, run_numbers, run_outcome}
+use Rattle.answers.specs.Run.{RunAnswer, run_family, run_numbers, run_outcome}
 use Rattle.plan.proofs.Annotations.{accept-without_marks, reads_without_marks}
 use Rattle.answers.proofs.Runs.{runs_without_marks}
 use Rattle.plan.proofs.ReadBack.{bare-placed}

@@ -7,26 +7,23 @@ use mathlib.Core.Logic.{◌↔◌, ◌≢◌, ◌⊎◌, inl, inr}
 use mathlib.Core.List.{List}
 use native.Mathlib.Omega.{arith}
 use lib.ListN.{length, length-replicate, get_or, get_or-replicate}
+use Rattle.std.specs.Prelude.{Ok, Err}
 use Rattle.kinds.specs.Limits.{cell_limit, standard}
-use Rattle.plan.specs.declared.ReadAnswer.{ReadAnswer}
-use Rattle.plan.specs.declared.ReadAnswer.TheVariants.{Read, Refused as RefusedText}
 use Rattle.plan.specs.declared.ReadRefusal.{ReadRefusal}
 use Rattle.plan.specs.declared.ReadRefusal.TheVariants.{NotRead, OutShort as PastOutput}
 use Rattle.plan.specs.declared.Unread.TheVariants.{Overfull, Text}
 use Rattle.plan.specs.Outcomes.{cleared}
 use Rattle.plan.specs.Plan.{print}
-use Rattle.plan.specs.Read.{read_family, read_outcome}
+use Rattle.plan.specs.Read.{ReadAnswer, read_family, read_outcome}
 use Rattle.plan.proofs.Accepting.{one_refusal}
 use Rattle.plan.proofs.Outcomes.{written}
 use Rattle.kinds.proofs.Tests.{never}
 use Rattle.numbers.specs.declared.Numbers.{Numbers}
 use Rattle.numbers.specs.Numbers.{read_numbers, read_refusal_numbers}
 use Rattle.numbers.proofs.Told.{read_refusal_number_is, same-read_refusal}
-use Rattle.answers.specs.declared.RunAnswer.{RunAnswer}
-use Rattle.answers.specs.declared.RunAnswer.TheVariants.{Refused}
 use Rattle.answers.specs.declared.RunRefusal.{RunRefusal}
 use Rattle.answers.specs.declared.RunRefusal.TheVariants.{BadArena, NotRead as RunNotRead, OutShort}
-use Rattle.answers.specs.Run.{run_family, run_numbers, run_refusal_numbers, run_outcome}
+use Rattle.answers.specs.Run.{RunAnswer, run_family, run_numbers, run_outcome, run_refusal_numbers}
 use Rattle.answers.proofs.Runs.{one_refusal as one_run_refusal}
 use Rattle.read.specs.Calls.{ReadsOut}
 use Rattle.run.specs.Calls.{Runs}
@@ -69,15 +66,15 @@ pub read-refused : {text out : List ℕ} {r : ReadAnswer} {out' : List ℕ} → 
     → (x : ReadRefusal) → ReadRefuses text out x ↔ (read_numbers r ≡ read_refusal_numbers x)
 read-refused {text} {out} {r} call x = (λ h. ap read_numbers (to (read_case call) h), λ h. from (read_case call) (same-read_refusal r x h))
   where
-    to : {r : ReadAnswer} {out' : List ℕ} {x : ReadRefusal} → ReadCase text out r out' → ReadRefuses text out x → r ≡ RefusedText x
-    to (bad_text h) (rows_11_to_17 row) = ap (λ u. RefusedText (NotRead u)) (one_refusal standard cell_limit text h row)
+    to : {r : ReadAnswer} {out' : List ℕ} {x : ReadRefusal} → ReadCase text out r out' → ReadRefuses text out x → r ≡ Err x
+    to (bad_text h) (rows_11_to_17 row) = ap (λ u. Err (NotRead u)) (one_refusal standard cell_limit text h row)
     to (bad_text h) (row_18 g short) = reads_not_unreadable g h
     to (out_short h short) (rows_11_to_17 row) = reads_not_unreadable h row
-    to (out_short h short) (row_18 g short') = ap (λ (p : Bare). RefusedText (PastOutput (length (print p)))) (reads_one h g)
+    to (out_short h short) (row_18 g short') = ap (λ (p : Bare). Err (PastOutput (length (print p)))) (reads_one h g)
     to (is_read h fits) (rows_11_to_17 row) = reads_not_unreadable h row
     to (is_read h fits) (row_18 g short) = absurd (omega (arith, ap (λ (p : Bare). length (print p)) (reads_one h g)))
 
-    from : {r : ReadAnswer} {out' : List ℕ} → ReadCase text out r out' → r ≡ RefusedText x → ReadRefuses text out x
+    from : {r : ReadAnswer} {out' : List ℕ} → ReadCase text out r out' → r ≡ Err x → ReadRefuses text out x
     from (bad_text {u} h) e =
         let same : NotRead u ≡ x = cc in
         subst (ReadRefuses text out) same (rows_11_to_17 h)
@@ -88,8 +85,8 @@ read-refused {text} {out} {r} call x = (λ h. ap read_numbers (to (read_case cal
 
 -- of the table's rows 12 is RUN's alone
 pub read_never_bad_arena : (r : ReadAnswer) → (read_numbers r).number ≢ 12
-read_never_bad_arena (Read c l) e = omega arith
-read_never_bad_arena (RefusedText x) e = (read_refusal_number_is x).no_arena e
+read_never_bad_arena (Ok s) e = omega arith
+read_never_bad_arena (Err x) e = (read_refusal_number_is x).no_arena e
 
 pub run_refused : {text : List ℕ} {quota : ℕ} {memory out : List ℕ} {r : RunAnswer} {memory' out' : List ℕ}
     → Runs text quota memory out r memory' out' → (x : RunRefusal) → RunRefuses (lent memory) quota text out x ↔ (run_numbers r ≡ run_refusal_numbers x)
@@ -99,15 +96,15 @@ run_refused {text} {quota} {memory} {out} {r} call x =
     n : ℕ
     n = lent memory
 
-    to : {r : RunAnswer} {out' : List ℕ} {x : RunRefusal} → RunCase n quota text out r out' → RunRefuses n quota text out x → r ≡ Refused x
-    to (bad_text h) (rows_11_to_17 row) = ap Refused (one_run_refusal standard n quota text h row)
+    to : {r : RunAnswer} {out' : List ℕ} {x : RunRefusal} → RunCase n quota text out r out' → RunRefuses n quota text out x → r ≡ Err x
+    to (bad_text h) (rows_11_to_17 row) = ap Err (one_run_refusal standard n quota text h row)
     to (bad_text h) (row_18 g short) = reads_not-refused g.reads h
     to (out_short h short) (rows_11_to_17 row) = reads_not-refused h.reads row
-    to (out_short h short) (row_18 g short') = ap (λ (q : Bare). Refused (OutShort (length (print q)))) (ends_same h g)
+    to (out_short h short) (row_18 g short') = ap (λ (q : Bare). Err (OutShort (length (print q)))) (ends_same h g)
     to (ended h fits) (rows_11_to_17 row) = reads_not-refused h.reads row
     to (ended h fits) (row_18 g short) = absurd (omega (arith, ap (λ (q : Bare). length (print q)) (ends_same h g)))
 
-    from : {r : RunAnswer} {out' : List ℕ} → RunCase n quota text out r out' → r ≡ Refused x → RunRefuses n quota text out x
+    from : {r : RunAnswer} {out' : List ℕ} → RunCase n quota text out r out' → r ≡ Err x → RunRefuses n quota text out x
     from (bad_text {x = y} h) e =
         let same : y ≡ x = cc in
         subst (RunRefuses n quota text out) same (rows_11_to_17 h)

@@ -7,14 +7,13 @@ use mathlib.Core.List.{List, ◌++◌}
 use native.Mathlib.Omega.{arith}
 use lib.ListN.{length, drop}
 use lib.Seq.{take-append_seam}
+use Rattle.std.specs.Prelude.{Ok, Err}
 use Rattle.kinds.specs.Limits.{cell_limit, standard}
-use Rattle.plan.specs.declared.ReadAnswer.{ReadAnswer}
-use Rattle.plan.specs.declared.ReadAnswer.TheVariants.{Read, Refused as RefusedText}
 use Rattle.plan.specs.declared.ReadRefusal.TheVariants.{NotRead, OutShort as PastOutput}
 use Rattle.plan.specs.declared.Unread.{Unread}
 use Rattle.plan.specs.Outcomes.{GIVES, Outcome, write}
 use Rattle.plan.specs.Plan.{Plan, bare, cells, print}
-use Rattle.plan.specs.Read.{as_read, read_family, read_outcome}
+use Rattle.plan.specs.Read.{ReadAnswer, as_read, read_family, read_outcome, sized}
 use Rattle.plan.specs.Reading.{ACCEPTED, Acceptance, UNREAD, accept}
 use Rattle.plan.specs.Refusals.{Unreadable}
 use Rattle.plan.proofs.Accepting.{unread_iff}
@@ -25,11 +24,9 @@ use Rattle.rules.specs.Running.{Ran as Run, RAN, run_plan}
 use Rattle.rules.proofs.Runs.{run_relabel}
 use Rattle.numbers.specs.Numbers.{read_numbers}
 use Rattle.numbers.proofs.Told.{read_refusal_number_is}
-use Rattle.answers.specs.declared.RunAnswer.{RunAnswer}
-use Rattle.answers.specs.declared.RunAnswer.TheVariants.{Ran, Refused}
 use Rattle.answers.specs.declared.RunRefusal.{RunRefusal}
 use Rattle.answers.specs.declared.RunRefusal.TheVariants.{OutShort}
-use Rattle.answers.specs.Run.{HowRan, Refuses, as_run, run_family, run_numbers, run_outcome}
+use Rattle.answers.specs.Run.{HowRan, Refuses, RunAnswer, as_run, ran, run_family, run_numbers, run_outcome}
 use Rattle.answers.proofs.Runs.{RunsCase, accepts, refuses, runs_accepted, runs_case}
 use Rattle.read.specs.Calls.{ReadsOut}
 use Rattle.run.specs.Calls.{Runs}
@@ -38,18 +35,18 @@ use Rattle.demands.proofs.Meanings.{ends_one, ends_rewritten, ends_same, reads_n
 use Rattle.demands.proofs.Numbers.{ending-at_most, run_refusal_number_is}
 
 pub data ReadCase (text out : List ℕ) : ReadAnswer → List ℕ → Type 0 where
-  bad_text : {u : Unread} → Unreadable standard cell_limit text u → ReadCase text out (RefusedText (NotRead u)) out
+  bad_text : {u : Unread} → Unreadable standard cell_limit text u → ReadCase text out (Err (NotRead u)) out
   out_short : {p : Bare} → Reads cell_limit text p → length out < length (print p)
-      → ReadCase text out (RefusedText (PastOutput (length (print p)))) out
+      → ReadCase text out (Err (PastOutput (length (print p)))) out
   is_read : {p : Bare} → Reads cell_limit text p → length (print p) ≤ length out
-      → ReadCase text out (Read (cells p) (length (print p))) (print p ++ drop (length (print p)) out)
+      → ReadCase text out (Ok (sized (cells p) (length (print p)))) (print p ++ drop (length (print p)) out)
 
 pub data RunCase (n quota : ℕ) (text out : List ℕ) : RunAnswer → List ℕ → Type 0 where
-  bad_text : {x : RunRefusal} → Refuses standard n text x → RunCase n quota text out (Refused x) out
+  bad_text : {x : RunRefusal} → Refuses standard n text x → RunCase n quota text out (Err x) out
   out_short : {e : Ending} {steps : ℕ} {q : Bare} → Ends n quota text e steps q → length out < length (print q)
-      → RunCase n quota text out (Refused (OutShort (length (print q)))) out
+      → RunCase n quota text out (Err (OutShort (length (print q)))) out
   ended : {e : Ending} {steps : ℕ} {q : Bare} → Ends n quota text e steps q → length (print q) ≤ length out
-      → RunCase n quota text out (Ran e steps (cells q) (length (print q))) (print q ++ drop (length (print q)) out)
+      → RunCase n quota text out (Ok (ran e steps (cells q) (length (print q)))) (print q ++ drop (length (print q)) out)
 
 module _ (n : ℕ) (within : n ≤ cell_limit) (text : List ℕ) {p : Plan ℕ} (h : accept standard n text ≡ ACCEPTED p) where
   reads_bare : Reads n text (bare p)
@@ -121,7 +118,7 @@ pub record EndedRun (n quota : ℕ) (text out : List ℕ) (r : RunAnswer) (out' 
   pub steps : ℕ
   pub result : Bare
   pub ends : Ends n quota text ending steps result
-  pub told : r ≡ Ran ending steps (cells result) (length (print result))
+  pub told : r ≡ Ok (ran ending steps (cells result) (length (print result)))
   pub left : out' ≡ print result ++ drop (length (print result)) out
   pub fits : length (print result) ≤ length out
 
@@ -129,7 +126,7 @@ pub record EndedRun (n quota : ℕ) (text out : List ℕ) (r : RunAnswer) (out' 
 pub record TextRead (text out : List ℕ) (r : ReadAnswer) (out' : List ℕ) : Type 0 where
   pub plan : Bare
   pub reads : Reads cell_limit text plan
-  pub told : r ≡ Read (cells plan) (length (print plan))
+  pub told : r ≡ Ok (sized (cells plan) (length (print plan)))
   pub left : out' ≡ print plan ++ drop (length (print plan)) out
 
 pub text-read : {text out : List ℕ} {r : ReadAnswer} {out' : List ℕ} → ReadsOut text out r out' → Unrefused (read_numbers r) → TextRead text out r out'

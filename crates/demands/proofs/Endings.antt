@@ -7,20 +7,18 @@ use mathlib.Core.Logic.{◌↔◌}
 use mathlib.Core.List.{List, ◌++◌}
 use native.Mathlib.Omega.{arith}
 use lib.ListN.{length, drop}
+use Rattle.std.specs.Prelude.{Ok, Err}
 use Rattle.kinds.specs.Limits.{cell_limit}
-use Rattle.plan.specs.declared.ReadAnswer.{ReadAnswer}
-use Rattle.plan.specs.declared.ReadAnswer.TheVariants.{Read, Refused as RefusedText}
 use Rattle.rules.specs.declared.Ending.{Ending}
 use Rattle.rules.specs.declared.Ending.TheVariants.{Done, Quota, Full}
 use Rattle.plan.specs.Plan.{cells, print}
 use Rattle.rules.specs.Running.{Leads}
 use Rattle.plan.specs.declared.Unread.{Unread}
 use Rattle.plan.specs.declared.Unread.TheVariants.{Overfull, Text}
+use Rattle.plan.specs.Read.{ReadAnswer}
 use Rattle.numbers.specs.Numbers.{read_numbers, unread_numbers}
 use Rattle.numbers.proofs.Told.{read_refusal_number_is}
-use Rattle.answers.specs.declared.RunAnswer.{RunAnswer}
-use Rattle.answers.specs.declared.RunAnswer.TheVariants.{Ran, Refused}
-use Rattle.answers.specs.Run.{ending_number, run_numbers}
+use Rattle.answers.specs.Run.{RunAnswer, ending_number, run_numbers}
 use Rattle.rules.proofs.Rewrites.{finished_iff}
 use Rattle.rules.proofs.Runs.{Stops, run_quota_steps, run_steps, run_stops}
 use Rattle.read.specs.Calls.{ReadsOut}
@@ -133,9 +131,9 @@ read_steps {text} {out} call = go (read_case call)
 
 -- and the place is 0 for DONE, QUOTA, FULL and READ, whichever service answers so.
 pub run_unrefused_place : (r : RunAnswer) → Unrefused (run_numbers r) → (run_numbers r).place ≡ 0
-run_unrefused_place (Ran e steps c l) u = refl
-run_unrefused_place (Refused x) u = absurd (omega (arith, (run_refusal_number_is x).over))
+run_unrefused_place (Ok x) u = refl
+run_unrefused_place (Err x) u = absurd (omega (arith, (run_refusal_number_is x).over))
 
 pub read_unrefused_place : (r : ReadAnswer) → Unrefused (read_numbers r) → (read_numbers r).place ≡ 0
-read_unrefused_place (Read c l) u = refl
-read_unrefused_place (RefusedText x) u = absurd (omega (arith, (read_refusal_number_is x).over))
+read_unrefused_place (Ok s) u = refl
+read_unrefused_place (Err x) u = absurd (omega (arith, (read_refusal_number_is x).over))

@@ -7,9 +7,9 @@ use mathlib.Core.Bool.{true, false}
 use mathlib.Core.List.{List, [], ◌∷◌, ◌++◌}
 use native.Mathlib.Omega.{arith}
 use lib.ListN.{length, replicate}
+use Rattle.std.specs.Prelude.{Ok, Err}
 use Rattle.kinds.specs.Limits.{cell_numbers, standard}
 use Rattle.kinds.proofs.Tests.{never}
-use Rattle.plan.specs.declared.ReadAnswer.TheVariants.{Read, Refused as RefusedText}
 use Rattle.plan.specs.declared.ReadRefusal.TheVariants.{NotRead, OutShort as PastOutput}
 use Rattle.rules.specs.declared.Ending.{Ending}
 use Rattle.rules.specs.declared.Ending.TheVariants.{Done, Quota, Full}
@@ -19,12 +19,10 @@ use Rattle.plan.specs.declared.TextFault.TheVariants.{Unclosed}
 use Rattle.plan.specs.Plan.{Plan, WithoutC, end, operator, token, block, bare, relabel}
 use Rattle.plan.specs.Reading.{HoldsAnnotation, OUTSIDE, enter, leave, place, without_marks}
 use Rattle.plan.specs.Outcomes.{GIVES}
-use Rattle.plan.specs.Read.{acceptable}
+use Rattle.plan.specs.Read.{acceptable, sized}
 use Rattle.plan.proofs.Worked.{reading}
-use Rattle.answers.specs.declared.RunAnswer.{RunAnswer}
-use Rattle.answers.specs.declared.RunAnswer.TheVariants.{Ran, Refused}
 use Rattle.answers.specs.declared.RunRefusal.TheVariants.{NotRead as RunNotRead, OutShort}
-use Rattle.answers.specs.Run.{run_numbers, run_refusal_numbers}
+use Rattle.answers.specs.Run.{RunAnswer, ran, run_numbers, run_refusal_numbers}
 use Rattle.answers.specs.Slots.{after, next_slot, slots, total}
 use Rattle.answers.proofs.Worked.{worked_plans}
 use Rattle.numbers.specs.Rows.{bytes}
@@ -65,15 +63,15 @@ zeroed n = replicate (cell_numbers * n) 0
 abbrev out : List ℕ
 out = replicate 16 7
 
-pub calls : Runs p6 2 (memory 7) out (Ran Done 2 4 10) (zeroed 7) (ended ++ replicate 6 7)
-    × Runs p6 1 (memory 7) out (Ran Quota 1 6 13) (zeroed 7) (p7 ++ replicate 3 7)
-    × Runs p7 1 (memory 7) out (Ran Done 1 4 10) (zeroed 7) (ended ++ replicate 6 7)
-    × Runs (bytes "[{x}]c") 9 (memory 3) out (Ran Full 0 3 6) (zeroed 3) (bytes "[{x}]c" ++ replicate 10 7)
-    × Runs (bytes "[") 9 (memory 7) out (Refused (RunNotRead (Text (Unclosed (place 1))))) (zeroed 7) out
-    × Runs p6 2 (memory 7) [] (Refused (OutShort 10)) (zeroed 7) []
+pub calls : Runs p6 2 (memory 7) out (Ok (ran Done 2 4 10)) (zeroed 7) (ended ++ replicate 6 7)
+    × Runs p6 1 (memory 7) out (Ok (ran Quota 1 6 13)) (zeroed 7) (p7 ++ replicate 3 7)
+    × Runs p7 1 (memory 7) out (Ok (ran Done 1 4 10)) (zeroed 7) (ended ++ replicate 6 7)
+    × Runs (bytes "[{x}]c") 9 (memory 3) out (Ok (ran Full 0 3 6)) (zeroed 3) (bytes "[{x}]c" ++ replicate 10 7)
+    × Runs (bytes "[") 9 (memory 7) out (Err (RunNotRead (Text (Unclosed (place 1))))) (zeroed 7) out
+    × Runs p6 2 (memory 7) [] (Err (OutShort 10)) (zeroed 7) []
     × (slots standard 7 1 (1 ∷ []) p6 ≡ GIVES (record { ending = Done; steps = 2 }) 4 ended)
-    × ReadsOut (bytes "[") out (RefusedText (NotRead (Text (Unclosed (place 1))))) out × ReadsOut p6 [] (RefusedText (PastOutput 14)) []
-    × ReadsOut (bytes "{&j}") [] (Read 0 0) [] × ReadsOut spaced out (Read 2 5) (bytes "[{x}]" ++ replicate 11 7)
+    × ReadsOut (bytes "[") out (Err (NotRead (Text (Unclosed (place 1))))) out × ReadsOut p6 [] (Err (PastOutput 14)) []
+    × ReadsOut (bytes "{&j}") [] (Ok (sized 0 0)) [] × ReadsOut spaced out (Ok (sized 2 5)) (bytes "[{x}]" ++ replicate 11 7)
 unfolding worked_plans slots next_slot after
 calls = (
   record { wrote = record { answer = refl; output = refl }; zeroed = refl },
@@ -93,27 +91,27 @@ calls = (
 abbrev annotated : List ℕ
 annotated = bytes "[{x}][{y}]{&jit}a"
 
-pub an_annotated_run : HoldsAnnotation annotated × Runs annotated 1 (memory 7) out (Ran Done 1 3 8) (zeroed 7) (bytes "{y}[{x}]" ++ replicate 8 7)
+pub an_annotated_run : HoldsAnnotation annotated × Runs annotated 1 (memory 7) out (Ok (ran Done 1 3 8)) (zeroed 7) (bytes "{y}[{x}]" ++ replicate 8 7)
     × (without_marks OUTSIDE annotated ≡ bytes "[{x}][{y}]a")
 unfolding calls without_marks enter leave
 an_annotated_run = ((bytes "[{x}][{y}]", bytes "jit}a", refl), record { wrote = record { answer = refl; output = refl }; zeroed = refl }, refl)
 
 -- `Unrefused`, `Rewritten` (with `Reads` and `Leads` in it), and why a run ends: no rule applies, the next result fits, or it does not
-pub a_done_run : Unrefused (run_numbers (Ran Done 2 4 10)) × ((q : Bare) × Rewritten 7 p6 2 q × NoRuleApplies q)
+pub a_done_run : Unrefused (run_numbers (Ok (ran Done 2 4 10))) × ((q : Bare) × Rewritten 7 p6 2 q × NoRuleApplies q)
 a_done_run =
-    let u : Unrefused (run_numbers (Ran Done 2 4 10)) = omega arith in
+    let u : Unrefused (run_numbers (Ok (ran Done 2 4 10))) = omega arith in
     let made = reads_rewrites_prints calls.0 u in
     (u, (made.0, made.1, (done_exactly_when calls.0 u made.1).0 refl))
 
-pub a_quota_run : Unrefused (run_numbers (Ran Quota 1 6 13)) × ((q : Bare) × Rewritten 7 p6 1 q × NextFits 7 q)
+pub a_quota_run : Unrefused (run_numbers (Ok (ran Quota 1 6 13))) × ((q : Bare) × Rewritten 7 p6 1 q × NextFits 7 q)
 a_quota_run =
-    let u : Unrefused (run_numbers (Ran Quota 1 6 13)) = omega arith in
+    let u : Unrefused (run_numbers (Ok (ran Quota 1 6 13))) = omega arith in
     let made = reads_rewrites_prints calls.1 u in
     (u, (made.0, made.1, (quota_exactly_when calls.1 u made.1).0 refl))
 
-pub a_full_run : Unrefused (run_numbers (Ran Full 0 3 6)) × ((q : Bare) × Rewritten 3 (bytes "[{x}]c") 0 q × NextHasMoreThan 3 q)
+pub a_full_run : Unrefused (run_numbers (Ok (ran Full 0 3 6))) × ((q : Bare) × Rewritten 3 (bytes "[{x}]c") 0 q × NextHasMoreThan 3 q)
 a_full_run =
-    let u : Unrefused (run_numbers (Ran Full 0 3 6)) = omega arith in
+    let u : Unrefused (run_numbers (Ok (ran Full 0 3 6))) = omega arith in
     let made = reads_rewrites_prints calls.3 u in
     (u, (made.0, made.1, (full_exactly_when calls.3 u made.1).0 refl))
 
@@ -126,7 +124,7 @@ unfolding bytes
 as_demanded = run_as_demanded calls.0 a_done_run.0
 
 -- refusals, by both rows of `RunRefuses` and of `ReadRefuses`
-pub a_refusal : IsRefusal run_refusal_numbers (run_numbers (Refused (OutShort 10))) × (Unrefused (run_numbers (Refused (OutShort 10))) → ⊥)
+pub a_refusal : IsRefusal run_refusal_numbers (run_numbers (Err (OutShort 10))) × (Unrefused (run_numbers (Err (OutShort 10))) → ⊥)
 a_refusal = ((OutShort 10, refl), λ u. omega arith)
 
 pub refused_runs : RunRefuses 7 9 (bytes "[") out (RunNotRead (Text (Unclosed (place 1)))) × RunRefuses 7 2 p6 [] (OutShort 10)
@@ -155,7 +153,7 @@ slot call enough =
       saves = refl;
     }
 
-pub two-slots : Slots (length (memory 7)) p6 1 (1 ∷ []) 2 (Ran Done 1 4 10) ended × (total 1 (1 ∷ []) ≡ 2)
+pub two-slots : Slots (length (memory 7)) p6 1 (1 ∷ []) 2 (Ok (ran Done 1 4 10)) ended × (total 1 (1 ∷ []) ≡ 2)
 unfolding bytes total
 two-slots = (first_slot (slot calls.1 (λ e. absurd (omega arith))) (only_slot (slot calls.2 (λ e. absurd (omega arith)))), refl)
 
@@ -168,4 +166,4 @@ a_plan_without_c =
 
 -- and five numbers stored over the C interface
 pub five_in_array : InArray (λ r. five_of (run_numbers r)) (λ r. Runs p6 2 (memory 7) out r (zeroed 7) (ended ++ replicate 6 7)) (0 ∷ 2 ∷ 4 ∷ 10 ∷ 0 ∷ [])
-five_in_array = record { answer = Ran Done 2 4 10; did = calls.0; told = refl }
+five_in_array = record { answer = Ok (ran Done 2 4 10); did = calls.0; told = refl }

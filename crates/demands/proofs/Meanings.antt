@@ -8,6 +8,7 @@ use native.Mathlib.Nat.{le_trans}
 use native.Mathlib.Omega.{arith}
 use lib.ListN.{length}
 use borrow.Author.Tests.{le-leb}
+use Rattle.std.proofs.lemmas.Option.{same_Some}
 use Rattle.kinds.specs.Limits.{cell_limit, standard, token_limit}
 use Rattle.rules.specs.declared.Ending.{Ending}
 use Rattle.plan.specs.declared.Unread.{Unread}
@@ -56,13 +57,10 @@ reads_with_more {n} {text} m more within g =
       same = g.same;
     }
 
-some_injective : {r s : Bare} → Some r ≡ Some s → r ≡ s
-some_injective e = cc
-
 leads_one : (steps : ℕ) (p q q' : Bare) → Leads steps p q → Leads steps p q' → q ≡ q'
 leads_one zero p q q' g h = sym g ∙ h
 leads_one (suc steps) p q q' g h =
-    let same : g.0 ≡ h.0 = some_injective (sym g.1 ∙ h.1) in
+    let same : g.0 ≡ h.0 = same_Some _ _ (sym g.1 ∙ h.1) in
     leads_one steps h.0 q q' (subst (λ r. Leads steps r q) same g.2) h.2
 
 pub rewritten_one : {n steps : ℕ} {text : List ℕ} {q q' : Bare} → Rewritten n text steps q → Rewritten n text steps q' → q ≡ q'
@@ -77,7 +75,7 @@ way_fits (stop g) h (suc k) r within leads = absurd (omega arith)
 way_fits (spent g) h (suc k) r within leads = absurd (omega arith)
 way_fits {n} (go {p = p} {r = s} g ran) h (suc k) r within leads =
     let next_fits = (ask_go n (next p) s).0 g in
-    let same : leads.0 ≡ s = some_injective (sym leads.1 ∙ next_fits.0) in
+    let same : leads.0 ≡ s = same_Some _ _ (sym leads.1 ∙ next_fits.0) in
     way_fits ran next_fits.1 k r (omega arith) (subst (λ t. Leads k t r) same leads.2)
 
 -- A plan that came from reading and rewriting: its tokens are kept ones, and it fits the cells lent.

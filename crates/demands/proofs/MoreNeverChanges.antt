@@ -6,14 +6,13 @@ use mathlib.Core.List.{List, [], ◌∷◌}
 use native.Mathlib.Omega.{arith}
 use lib.ListN.{length, length-replicate, replicate}
 use Rattle.kinds.specs.Limits.{cell_limit, standard, token_limit}
-use Rattle.answers.specs.declared.RunAnswer.{RunAnswer}
 use Rattle.answers.specs.declared.RunRefusal.{RunRefusal}
 use Rattle.rules.specs.declared.Ending.{Ending}
 use Rattle.rules.specs.declared.Ending.TheVariants.{Done}
 use Rattle.plan.specs.Plan.{cells, print}
 use Rattle.rules.specs.Running.{RAN, run_plan}
 use Rattle.plan.specs.Outcomes.{GIVES, Outcome}
-use Rattle.answers.specs.Run.{HowRan, ending_number, quarter, run_numbers, run_outcome}
+use Rattle.answers.specs.Run.{HowRan, RunAnswer, ending_number, quarter, run_numbers, run_outcome}
 use Rattle.answers.specs.Slots.{after, next_slot, slots, total}
 use Rattle.rules.proofs.Runs.{more_never_changes}
 use Rattle.answers.proofs.Slots.{slots_end_as_one}

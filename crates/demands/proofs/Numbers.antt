@@ -8,18 +8,16 @@ use native.Mathlib.Omega.{arith}
 use lib.Dec.{eqb}
 use borrow.Author.Rules.{rules}
 use borrow.Author.Tests.{ne_eqb}
-use Rattle.plan.specs.declared.ReadAnswer.{ReadAnswer}
-use Rattle.plan.specs.declared.ReadAnswer.TheVariants.{Read, Refused as RefusedText}
+use Rattle.std.specs.Prelude.{Ok, Err}
 use Rattle.rules.specs.declared.Ending.{Ending}
 use Rattle.rules.specs.declared.Ending.TheVariants.{Done, Quota, Full}
+use Rattle.plan.specs.Read.{ReadAnswer}
 use Rattle.numbers.specs.declared.Numbers.{Numbers}
 use Rattle.numbers.specs.Numbers.{read_numbers}
 use Rattle.numbers.proofs.Told.{read_refusal_number_is, unread_number_is, unread_with, unread_with_its_own}
-use Rattle.answers.specs.declared.RunAnswer.{RunAnswer}
-use Rattle.answers.specs.declared.RunAnswer.TheVariants.{Ran, Refused}
 use Rattle.answers.specs.declared.RunRefusal.{RunRefusal}
 use Rattle.answers.specs.declared.RunRefusal.TheVariants.{BadArena, NotRead, OutShort}
-use Rattle.answers.specs.Run.{ending_number, run_numbers, run_refusal_numbers}
+use Rattle.answers.specs.Run.{RunAnswer, ending_number, run_numbers, run_refusal_numbers}
 use Rattle.demands.specs.Terms.{DONE, FULL, OUTSHORT, QUOTA, READ}
 
 pub ending-at_most : (e : Ending) → ending_number e ≤ FULL
@@ -63,19 +61,19 @@ with_its_own (NotRead u) =
 with_its_own (OutShort needed) = refl
 
 -- an answer with a refusal's five numbers is that refusal
-pub same_run_refusal : (r : RunAnswer) (x : RunRefusal) → run_numbers r ≡ run_refusal_numbers x → r ≡ Refused x
-same_run_refusal (Ran e steps c l) x h =
-    absurd (omega (arith, ending-at_most e, (run_refusal_number_is x).over, ap (λ (v : Numbers). v.number) h))
-same_run_refusal (Refused y) x h =
-    ap Refused (sym (with_its_own y) ∙ ap (λ (v : Numbers). refusal_with v.number v.place) h ∙ with_its_own x)
+pub same_run_refusal : (r : RunAnswer) (x : RunRefusal) → run_numbers r ≡ run_refusal_numbers x → r ≡ Err x
+same_run_refusal (Ok y) x h =
+    absurd (omega (arith, ending-at_most y.ending, (run_refusal_number_is x).over, ap (λ (v : Numbers). v.number) h))
+same_run_refusal (Err y) x h =
+    ap Err (sym (with_its_own y) ∙ ap (λ (v : Numbers). refusal_with v.number v.place) h ∙ with_its_own x)
 
 -- "Number 14 is never given again"
 -- a theorem of tokens' faults
 pub run_fourteen_never_given : (r : RunAnswer) → (run_numbers r).number ≢ 14
-run_fourteen_never_given (Ran e steps c l) h = omega (arith, ending-at_most e)
-run_fourteen_never_given (Refused x) h = (run_refusal_number_is x).not_14 h
+run_fourteen_never_given (Ok x) h = omega (arith, ending-at_most x.ending)
+run_fourteen_never_given (Err x) h = (run_refusal_number_is x).not_14 h
 
 -- a theorem of tokens' faults
 pub read_fourteen_never_given : (r : ReadAnswer) → (read_numbers r).number ≢ 14
-read_fourteen_never_given (Read c l) h = omega arith
-read_fourteen_never_given (RefusedText x) h = (read_refusal_number_is x).not_14 h
+read_fourteen_never_given (Ok s) h = omega arith
+read_fourteen_never_given (Err x) h = (read_refusal_number_is x).not_14 h

@@ -13,16 +13,14 @@ use lib.ListN.{length, replicate}
 use lib.Dec.{leb}
 use borrow.Author.Tests.{leb-true, leb-false}
 use Rattle.kinds.specs.Limits.{standard}
-use Rattle.plan.specs.declared.ReadAnswer.{ReadAnswer}
 use Rattle.plan.specs.Outcomes.{Wrote, cleared}
 use Rattle.plan.specs.Plan.{cells, print}
-use Rattle.plan.specs.Read.{read_family}
+use Rattle.plan.specs.Read.{ReadAnswer, read_family}
 use Rattle.plan.proofs.Outcomes.{wrote_once}
 use Rattle.rules.specs.Rewriting.{next}
 use Rattle.rules.specs.Running.{Leads}
 use Rattle.numbers.specs.Numbers.{read_numbers}
-use Rattle.answers.specs.declared.RunAnswer.{RunAnswer}
-use Rattle.answers.specs.Run.{quarter, run_family, run_numbers, run_outcome}
+use Rattle.answers.specs.Run.{RunAnswer, quarter, run_family, run_numbers, run_outcome}
 use Rattle.rules.proofs.Rewrites.{finished_iff}
 use Rattle.read.specs.Calls.{ReadsOut}
 use Rattle.run.specs.Calls.{Runs}

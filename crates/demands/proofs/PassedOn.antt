@@ -5,7 +5,6 @@ use mathlib.Core.Path.{◌≡◌, refl, subst}
 use mathlib.Core.Logic.{◌↔◌}
 use mathlib.Core.List.{List}
 use Rattle.kinds.specs.Limits.{cell_limit, standard}
-use Rattle.plan.specs.declared.ReadAnswer.{ReadAnswer}
 use Rattle.plan.specs.declared.ReadRefusal.{ReadRefusal}
 use Rattle.plan.specs.declared.ReadRefusal.TheVariants.{NotRead}
 use Rattle.plan.specs.declared.TextFault.{TextFault}
@@ -13,11 +12,11 @@ use Rattle.plan.specs.declared.Unread.{Unread}
 use Rattle.plan.specs.declared.Unread.TheVariants.{Text}
 use Rattle.plan.specs.Refusals.{Row, Unreadable, bad_text as bad_row, faulty, overfull, too_long}
 use Rattle.kinds.proofs.Tests.{never}
+use Rattle.plan.specs.Read.{ReadAnswer}
 use Rattle.numbers.specs.Numbers.{fault_numbers, read_numbers, unread_numbers}
-use Rattle.answers.specs.declared.RunAnswer.{RunAnswer}
 use Rattle.answers.specs.declared.RunRefusal.{RunRefusal}
 use Rattle.answers.specs.declared.RunRefusal.TheVariants.{NotRead as RunNotRead}
-use Rattle.answers.specs.Run.{Refuses, bad_arena, text_refused, run_numbers, text_too_long as run_too_long}
+use Rattle.answers.specs.Run.{Refuses, RunAnswer, bad_arena, run_numbers, text_refused, text_too_long as run_too_long}
 use Rattle.read.specs.Calls.{ReadsOut}
 use Rattle.run.specs.Calls.{Runs}
 use Rattle.demands.specs.Table.{ReadRefuses, RunRefuses, row_18, rows_11_to_17}

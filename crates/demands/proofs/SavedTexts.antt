@@ -8,14 +8,13 @@ use mathlib.Core.List.{List}
 use native.Mathlib.Omega.{arith}
 use lib.ListN.{length}
 use Rattle.kinds.specs.Limits.{cell_limit, standard, text_limit, token_limit}
-use Rattle.plan.specs.declared.ReadAnswer.{ReadAnswer}
 use Rattle.plan.specs.declared.TextFault.{TextFault}
 use Rattle.plan.specs.declared.Unread.{Unread}
 use Rattle.plan.specs.Plan.{cells, print}
 use Rattle.plan.specs.Refusals.{Fault, Row, bad_byte, bad_text as bad_row, bad_token, first_fault_there, faulty, overfull, too_long, unclosed, unmatched}
-use Rattle.answers.specs.declared.RunAnswer.{RunAnswer}
 use Rattle.answers.specs.declared.RunRefusal.{RunRefusal}
-use Rattle.answers.specs.Run.{Refuses, bad_arena, text_refused as run_bad_row, run_numbers, run_refusal_numbers, text_too_long as run_too_long}
+use Rattle.answers.specs.Run.{Refuses, RunAnswer, bad_arena, run_numbers, run_refusal_numbers, text_refused as run_bad_row, text_too_long as run_too_long}
+use Rattle.plan.specs.Read.{ReadAnswer}
 use Rattle.numbers.specs.Numbers.{fault_number, read_numbers, unread_numbers}
 use Rattle.numbers.proofs.Told.{token_fault_range, unread_number_is}
 use Rattle.read.specs.Calls.{ReadsOut}

@@ -5,10 +5,9 @@ use Prim.Native.Nat.{ℕ, ◌≤◌}
 use mathlib.Core.Path.{◌≡◌, ap, sym, subst, ◌∙◌}
 use mathlib.Core.Logic.{◌≢◌}
 use mathlib.Core.List.{List}
-use Rattle.answers.specs.declared.RunAnswer.{RunAnswer}
 use Rattle.rules.specs.declared.Ending.TheVariants.{Full}
 use Rattle.plan.specs.Plan.{WithoutC, cells}
-use Rattle.answers.specs.Run.{ending_number, run_numbers}
+use Rattle.answers.specs.Run.{RunAnswer, ending_number, run_numbers}
 use Rattle.rules.proofs.Runs.{without_c_done, without_c_not_full}
 use Rattle.run.specs.Calls.{Runs}
 use Rattle.demands.specs.Terms.{Bare, DONE, FULL, Reads, Unrefused, lent}

@@ -2,8 +2,7 @@
 -- are equally long, whatever they hold. Each output is long enough for its text: it is so exactly when the answer is not OUTSHORT, and
 -- always with 64 bytes for each cell lent.
 use Rattle.std.specs.Prelude.{ℕ, ◌+◌, ◌≡◌, ◌≢◌, List, [], ◌∷◌, length}
-use Rattle.answers.specs.declared.RunAnswer.{RunAnswer}
-use Rattle.answers.specs.Run.{run_numbers}
+use Rattle.answers.specs.Run.{RunAnswer, run_numbers}
 use Rattle.run.specs.Calls.{Runs}
 use Rattle.demands.specs.Terms.{OUTSHORT, saved}
 
