@@ -1,22 +1,23 @@
 -- What looking over a roll says of its entries, and what reading it then answers.
 use Prim.Native.Nat.{ℕ, ◌≤◌, ◌<◌}
 use mathlib.Core.Path.{◌≡◌, refl, ap, sym, ◌∙◌, subst}
-use mathlib.Core.List.{List, reverse}
+use mathlib.Core.List.{List, ◌++◌, reverse}
 use native.Mathlib.Omega.{arith}
-use lib.ListN.{length, length-reverse}
+use lib.ListN.{length, take, drop, length-reverse}
+use lib.Seq.{length-take-le}
 use Rattle.std.specs.Prelude.{Ok, Err}
 use Rattle.kinds.proofs.Tests.{never}
 use Rattle.roll_rules.specs.Answers.{Judged, ENTRIES, REFUSED, Read, RollAnswer, edition_1, judged, places, read_roll, sums}
 use Rattle.roll_format.specs.Format.{Entry}
 use Rattle.roll_rules.specs.EntriesBefore.{EntriesBefore}
-use Rattle.roll_format.specs.EntriesStand.{EntriesStand}
 use Rattle.roll_rules.specs.declared.RollRefusal.{RollRefusal}
 use Rattle.roll_rules.specs.declared.RollRefusal.TheVariants.{MoreEntries}
 use Rattle.roll_rules.specs.declared.Sums.{Sums}
 use Rattle.roll_rules.proofs.Reading.{read_fits, read_refuses, read_short}
 use Rattle.roll_rules.proofs.Sound.{reads_before}
 use Rattle.roll_read.specs.Calls.{Lists}
-use Rattle.roll_read.specs.Judging.{Fillable, filled, judged_as}
+use Rattle.roll_read.specs.Judging.{Fillable, judged_as}
+use Rattle.roll_read.proofs.Filling.{front_filled}
 
 -- a roll that reads: what its entries come to, and where they stand
 pub record ReadsAs (bytes : List ℕ) (s : Sums) : Type 0 where
@@ -60,17 +61,10 @@ module _ (bytes list : List ℕ) where
         subst (λ k. Lists bytes list (Err (MoreEntries k)) list) (sym (reads_many r)) (lists_by (read_short edition_1 bytes list r.reads (omega (arith, reads_many r))))
 
     module _ (room : s.entries ≤ length list) where
-      pub lists_fillable : 0 < s.end → Fillable bytes s.end list
-      lists_fillable more = record { es = r.es; stand = r.before.stand more; room = omega (arith, reads_many r); short = r.before.short }
+      pub lists_fillable : Fillable bytes s.end (length (take s.entries list))
+      lists_fillable = record { es = r.es; before = r.before; room = sym (reads_many r) ∙ sym (length-take-le s.entries list room) }
 
-      lists_as : {list' : List ℕ} → list' ≡ filled r.es list → Lists bytes list (Ok s) list'
-      lists_as e =
+      pub lists_filled : {last : List ℕ} → ((es : List Entry) → EntriesBefore bytes es s.end → last ≡ places es) → Lists bytes list (Ok s) (last ++ drop s.entries list)
+      lists_filled {last} h =
           let it = lists_by (read_fits edition_1 bytes list r.reads (omega (arith, reads_many r))) in
-          record { answer = ap Ok r.comes ∙ it.answer; places = e ∙ it.places }
-
-      pub lists_filled : {list' : List ℕ} → 0 < s.end → ((es : List Entry) → EntriesStand bytes 1 es s.end → list' ≡ filled es list) → Lists bytes list (Ok s) list'
-      lists_filled more h = lists_as (h r.es (r.before.stand more))
-
-      pub lists_empty : s.end ≤ 0 → Lists bytes list (Ok s) list
-      unfolding places
-      lists_empty h = lists_as (sym (ap (λ fs. filled fs list) (r.before.none_there (omega arith))))
+          record { answer = ap Ok r.comes ∙ it.answer; places = front_filled r.es list last (reads_many r) (h r.es r.before) ∙ it.places }

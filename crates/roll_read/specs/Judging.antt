@@ -1,12 +1,12 @@
 -- What the code says of a roll's entries, where the definition has the entries themselves.
-use Rattle.std.specs.Prelude.{ℕ, ◌-◌, ◌≤◌, List, ◌++◌, reverse, length, drop, Option, Some, None, Result, Ok, Err}
+use Rattle.std.specs.Prelude.{ℕ, ◌-◌, ◌≡◌, List, ◌++◌, reverse, length, drop, Option, Some, None, Result, Ok, Err}
 use Rattle.stored.specs.Counted.{AtFront, CUT, FRONT}
 use Rattle.roll_rules.specs.Answers.{Judged, ENTRIES, REFUSED, RollAnswer, listed_as, places}
-use Rattle.roll_format.specs.Format.{Entry, longest}
+use Rattle.roll_format.specs.Format.{Entry}
 use Rattle.roll_rules.specs.declared.Counts.{Counts}
 use Rattle.roll_rules.specs.declared.RollRefusal.{RollRefusal}
 use Rattle.roll_rules.specs.declared.RollRefusal.TheVariants.{BadRoll}
-use Rattle.roll_format.specs.EntriesStand.{EntriesStand}
+use Rattle.roll_rules.specs.EntriesBefore.{EntriesBefore}
 use Rattle.roll_weigh.specs.Weighed.{Weighed, weighed_at}
 use Rattle.roll_read.specs.declared.JudgedEntry.{JudgedEntry}
 
@@ -30,11 +30,11 @@ entry_judged earlier at (FRONT parts rest) bytes = weight_judged at (weighed_at 
 abbrev pub filled : List Entry → List ℕ → List ℕ
 filled es list = places es ++ drop (length es) list
 
-pub record Fillable (bytes : List ℕ) (end : ℕ) (list : List ℕ) : Type 0 where
+-- so many entries stand before the end
+pub record Fillable (bytes : List ℕ) (end : ℕ) (many : ℕ) : Type 0 where
   pub es : List Entry
-  pub stand : EntriesStand bytes 1 es end
-  pub room : length es ≤ length list
-  pub short : length bytes ≤ longest
+  pub before : EntriesBefore bytes es end
+  pub room : length es ≡ many
 
 -- what the entries come to, or the refusal
 abbrev pub judged_as : Judged → RollAnswer

@@ -5,11 +5,10 @@
 ghost use Rattle.std.specs.Prelude.{◌≡◌, Some, List, ◌≤◌, length, drop};
 ghost use Rattle.kinds.specs.Limits.{standard};
 ghost use Rattle.roll_format.specs.Format.{Entry, entry, listing, longest};
-ghost use Rattle.roll_rules.specs.EntriesBefore.{Behind, HasEntriesBefore};
-ghost use Rattle.roll_format.specs.EntriesStand.{EntriesStand};
-ghost use Rattle.roll_rules.specs.Answers.{by_rules, edition_1, judged, one_entry};
+ghost use Rattle.roll_rules.specs.EntriesBefore.{Behind, EntriesBefore, HasEntriesBefore};
+ghost use Rattle.roll_rules.specs.Answers.{by_rules, edition_1, judged, one_entry, places};
 ghost use Rattle.roll_read.specs.Calls.{Lists};
-ghost use Rattle.roll_read.specs.Judging.{Fillable, entry_judged, filled, judged_as};
+ghost use Rattle.roll_read.specs.Judging.{Fillable, entry_judged, judged_as};
 
 use roll_entries::{EntryAt, entry_at, next_of};
 use roll_format::{FIRST, LONGEST};
@@ -86,17 +85,15 @@ pub fn judge_roll(roll: &[u8]) -> Result<Sums, RollRefusal>
     judge_entries(roll)
 }
 
-// Puts the places of the entries up to an end into the list, in order. Where a roll is refused by its last entry, the list stays as it was.
-// So the places go into it only now, and the entries are passed a second time.
+// Puts the places of the entries up to an end into a list of as many, in order. Where a roll is refused by its last entry, the list stays as
+// it was. So the places go into it only now, and the entries are passed a second time.
 fn fill(roll: &[u8], end: usize, list: &mut [u32])
-    requires { Fillable roll.now end list.old }
-    ensures { (es : List Entry) → EntriesStand roll.now 1 es end → list.new ≡ filled es list.old }
+    requires { Fillable roll.now end (length list.old) }
+    ensures { (es : List Entry) → EntriesBefore roll.now es end → list.new ≡ places es }
 {
     let mut at: usize = 1;
-    let mut put: usize = 0;
-    while at != end {
-        list[put] = at as u32;
-        put += 1;
+    for place in list.iter_mut() {
+        *place = at as u32;
         at = next_of(entry_at(roll, at), end);
     }
 }
@@ -109,9 +106,7 @@ pub fn read(roll: &[u8], list: &mut [u32]) -> Result<Sums, RollRefusal>
     if list.len() < sums.entries as usize {
         return Err(RollRefusal::MoreEntries(sums.entries));
     }
-    if 0 < sums.end {
-        fill(roll, sums.end as usize, list);
-    }
+    fill(roll, sums.end as usize, &mut list[..sums.entries as usize]);
     Ok(sums)
 }
 

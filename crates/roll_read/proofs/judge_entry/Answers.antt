@@ -1,5 +1,5 @@
 -- `judge_entry`: torn, or of neither kind, or weighed.
-use Rattle.std.proofs.Common.{rules, ap, ◌∙◌}
+use Rattle.std.proofs.Common.{ap, ◌∙◌}
 use Rattle.std.specs.Prelude.{Some}
 use Rattle.roll_read.proofs.Judging.{faulty_judged, fine_judged, known, other_judged, torn_judged}
 use Rattle.roll_read.proofs.judge_entry.Goals as goal

@@ -1,6 +1,6 @@
 -- `read`: the roll is looked over, and then its places go into the list.
 use Rattle.roll_rules.proofs.Refusing.{refused}
-use Rattle.roll_read.proofs.Reading.{lists_empty, lists_fillable, lists_filled, lists_refused, lists_short, judged_reads, judged-refused}
+use Rattle.roll_read.proofs.Reading.{lists_fillable, lists_filled, lists_refused, lists_short, judged_reads, judged-refused}
 use Rattle.roll_read.proofs.read.Goals as goal
 
 pub returns-in_err-sums : goal.returns-in_err-sums
@@ -10,11 +10,7 @@ pub returns-then-list-sums : goal.returns-then-list-sums
 returns-then-list-sums c = lists_short _ _ (judged_reads _ c.judge_roll.ensures c.in_ok-sums.was) c.if-list-sums.true
 
 pub fill-requires : goal.fill-requires
-fill-requires c = lists_fillable _ _ (judged_reads _ c.judge_roll.ensures c.in_ok-sums.was) c.if-list-sums.false c.if-sums-gt0.true
+fill-requires c = lists_fillable _ _ (judged_reads _ c.judge_roll.ensures c.in_ok-sums.was) c.if-list-sums.false
 
-pub returns-then-sums-gt0 : goal.returns-then-sums-gt0
-returns-then-sums-gt0 c =
-    lists_filled _ _ (judged_reads _ c.judge_roll.ensures c.in_ok-sums.was) c.if-list-sums.false c.if-sums-gt0.true c.fill.ensures
-
-pub returns-else-sums-gt0 : goal.returns-else-sums-gt0
-returns-else-sums-gt0 c = lists_empty _ _ (judged_reads _ c.judge_roll.ensures c.in_ok-sums.was) c.if-list-sums.false c.if-sums-gt0.false
+pub returns : goal.returns
+returns c = lists_filled _ _ (judged_reads _ c.judge_roll.ensures c.in_ok-sums.was) c.if-list-sums.false c.fill.ensures
