@@ -12,9 +12,8 @@ use lib.ListN.{length, take}
 use Rattle.kinds.specs.Limits.{cell_limit}
 use Rattle.plan.specs.Plan.{print}
 use Rattle.rules.specs.Rewriting.{finished}
-use Rattle.answers.specs.Run.{run_numbers}
+use Rattle.answers.specs.Run.{RunAnswer, run_numbers}
 use Rattle.kinds.specs.Limits.{standard}
-use Rattle.answers.specs.declared.RunAnswer.{RunAnswer}
 use Rattle.plan.proofs.Plans.{print-relabel}
 use Rattle.rules.proofs.Rewrites.{finished-relabel, finished_when}
 use Rattle.kinds.proofs.Tests.{never, false_is_not_true}
