@@ -3,11 +3,11 @@
 // text, and the first line is empty. What cannot be read or written is said on standard error, and the status is then 1.
 #![tactic(auto)]
 
-use answers::of_run;
-use input::{Input, read_whole};
+use input::read_whole;
 use kinds::Cell;
-use std::io;
+use numbers::Numbers;
 use std::process::ExitCode;
+use std::{fmt, io};
 use telling::{tell_five, tell_printed};
 
 const QUOTA: u32 = 10_000;
@@ -17,79 +17,66 @@ const MEMORY: usize = Cell::NUMBERS * Cell::LIMIT;
 // Each of the two text buffers.
 const TEXT: usize = 65_536;
 
-// What stands behind the bytes that were read.
-#[derive(Clone, Copy)]
-enum Behind {
-    Nothing,
-    More,
-    Failed(io::Error),
+// Not all could be read, or not all written, and why.
+#[derive(Debug, Drop)]
+enum Failure {
+    Reading(io::Error),
+    Writing(io::Error),
 }
 
-// There is something to ask only where the bytes fill the buffer. A shorter input has ended.
-fn look_behind(rt: &impl io::Input, read: usize) -> Behind {
-    if read < TEXT {
-        return Behind::Nothing;
-    }
-    let mut next = [0u8; 1];
-    match read_whole(rt, &mut next) {
-        Input::Failed(error) => Behind::Failed(error),
-        Input::Read(more) => {
-            if 0 < more {
-                Behind::More
-            } else {
-                Behind::Nothing
-            }
+impl fmt::Display for Failure {
+    fn fmt<W: fmt::Write>(&self, f: &mut fmt::Formatter<W>) -> fmt::Result {
+        match self {
+            Failure::Reading(error) => write!(f, "standard input: {error}"),
+            Failure::Writing(error) => write!(f, "standard output: {error}"),
         }
     }
 }
 
+// Whether more stands behind the bytes that were read. There is something to ask only where these fill the buffer: a shorter input has
+// ended.
+fn has_more(rt: &impl io::Input, read: usize) -> io::Result<bool> {
+    if read < TEXT {
+        return Ok(false);
+    }
+    let mut next = [0u8; 1];
+    Ok(0 < read_whole(rt, &mut next)?)
+}
+
+// The input; none where it is too long.
+fn read_text<'a>(rt: &impl io::Input, buffer: &'a mut [u8]) -> io::Result<Option<&'a [u8]>> {
+    let read = read_whole(rt, buffer)?;
+    if has_more(rt, read)? {
+        return Ok(None);
+    }
+    Ok(Some(&buffer[..read]))
+}
+
 // Runs a text and writes what came of it; an error where not all could be written.
 fn run_text(rt: &impl Print, text: &[u8], memory: &mut [u32], output: &mut [u8]) -> io::Result<()> {
-    let numbers = of_run(run::run(text, QUOTA, memory, output));
+    let numbers: Numbers = run::run(text, QUOTA, memory, output).into();
     tell_printed(rt, numbers, output)?;
     println!(rt)?;
     tell_five(rt, numbers)?;
     println!(rt)
 }
 
-// What could not be read is said on standard error.
-fn tell_unread(rt: &impl Eprint, error: io::Error) {
-    let _ = eprintln!(rt; "runplan: standard input: {error}");
-}
-
-// Whether the input could be read; an error where not all could be written. An input that could not be read to its end is not run, and what
-// failed is said on standard error.
+// An input that could not be read to its end is not run.
 fn run_input(
-    rt: &(impl io::Input + Print + Eprint),
+    rt: &(impl io::Input + Print),
     input: &mut [u8],
     memory: &mut [u32],
     output: &mut [u8],
-) -> io::Result<bool> {
-    let read = match read_whole(rt, input) {
-        Input::Read(read) => read,
-        Input::Failed(error) => {
-            tell_unread(rt, error);
-            return Ok(false);
-        }
-    };
-    match look_behind(rt, read) {
-        Behind::Failed(error) => {
-            tell_unread(rt, error);
-            Ok(false)
-        }
-        Behind::More => {
-            println!(rt; "input too long")?;
-            Ok(true)
-        }
-        Behind::Nothing => {
-            run_text(rt, &input[0..read], memory, output)?;
-            Ok(true)
-        }
+) -> Result<(), Failure> {
+    match read_text(rt, input).map_err(Failure::Reading)? {
+        Some(text) => run_text(rt, text, memory, output),
+        None => println!(rt; "input too long"),
     }
+    .map_err(Failure::Writing)
 }
 
 // Lends each buffer as a slice. Behind a reference its length is known by its type; in `main` a proof would go through
-// its zeros one by one. The status is 1 where not all could be read and written.
+// its zeros one by one. The status is 1 where not all could be read and written, which is said on standard error.
 fn lend(
     rt: &(impl io::Input + Print + Eprint),
     input: &mut [u8; TEXT],
@@ -97,10 +84,9 @@ fn lend(
     output: &mut [u8; TEXT],
 ) -> ExitCode {
     match run_input(rt, input, memory, output) {
-        Ok(true) => ExitCode::SUCCESS,
-        Ok(false) => ExitCode::FAILURE,
-        Err(error) => {
-            let _ = eprintln!(rt; "runplan: standard output: {error}");
+        Ok(()) => ExitCode::SUCCESS,
+        Err(failure) => {
+            let _ = eprintln!(rt; "runplan: {failure}");
             ExitCode::FAILURE
         }
     }

@@ -5,8 +5,7 @@ use mathlib.Core.List.{List}
 use lib.ListN.{length}
 use Rattle.plan.specs.Outcomes.{Outcome, Wrote}
 use Rattle.numbers.proofs.Fits.{printed-fits}
-use Rattle.words_meaning.specs.Answers.{link_family, link_numbers, link_refusal_numbers}
-use Rattle.words_meaning.specs.declared.LinkAnswer.{LinkAnswer}
+use Rattle.words_meaning.specs.Answers.{LinkAnswer, link_family, link_numbers, link_refusal_numbers}
 use Rattle.words_meaning.specs.declared.LinkRefusal.{LinkRefusal}
 use Rattle.words_meaning.specs.declared.LinkRefusal.TheVariants.{BadWords, Text, Overfull, OutShort}
 

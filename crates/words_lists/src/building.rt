@@ -2,10 +2,14 @@
 //
 // The field is words `name = text` parted by `, `, or `0x` and the bytes of a list in hex, or `-` for the list of the line before. An empty
 // field is the list of no words.
-ghost use Rattle.std.specs.Prelude.{◌≤◌, length};
+ghost use Rattle.std.specs.Prelude.{◌≤◌};
+ghost use Rattle.words_lists.specs.declared.building.TheConstants.{LIST};
 
-use lines::{Sign, find_sign, past_sign, put_hex};
+use lines::{Parts, put_hex, split_once};
 use stored::{NUMBER, put_counted, put_number};
+
+// More bytes than any of these lists has.
+pub const LIST: usize = 8192;
 
 // No name and no text here is longer.
 const LONGEST: usize = 1000;
@@ -13,93 +17,98 @@ const LONGEST: usize = 1000;
 // No list has more words.
 const MOST: u32 = 1000;
 
-// A list in the first bytes of a buffer, how many words were put into it, and whether all of its field could be read.
+// A list in the first bytes of its room, and how many words were put into it.
 #[derive(Clone, Copy)]
 pub struct List {
-    pub bytes: usize,
+    bytes: usize,
     pub words: u32,
-    pub right: bool,
+    ghost within: { bytes ≤ LIST },
 }
 
-// Puts bytes behind their count at a place, and gives the place behind them; 0 if there is no room.
-fn put_bytes(list: &mut [u8], at: usize, given: &[u8]) -> usize
-    ensures { result ≤ length list.new }
-{
-    if LONGEST < given.len() {
-        return 0;
+impl List {
+    // The count of the words alone.
+    fn empty() -> Self {
+        Self {
+            bytes: NUMBER,
+            words: 0,
+        }
     }
-    if list.len() < at {
-        return 0;
-    }
-    if list.len() - at < NUMBER + given.len() {
-        return 0;
-    }
-    put_counted(list, at, given);
-    at + NUMBER + given.len()
-}
 
-// Puts a word behind those of a list. With one that cannot be put, the list is not right.
-fn put_word(list: &mut [u8], before: List, word: &[u8]) -> List
-    ensures { result.bytes ≤ length list.new }
-{
-    let sign = find_sign(word, 0, b" = ");
-    let name_end = sign.at;
-    let text = sign.past;
-    let behind = put_bytes(list, before.bytes, &word[0..name_end]);
-    let bytes = put_bytes(list, behind, &word[text..]);
-    let words = before.words;
-    if MOST < words || behind == 0 || bytes == 0 || name_end == word.len() {
-        return List {
+    // The list with bytes behind their count at its end; none if there is no room.
+    fn with_bytes(self, room: &mut [u8; LIST], given: &[u8]) -> Option<Self> {
+        if LONGEST < given.len() {
+            return None;
+        }
+        let bytes = self.bytes + NUMBER + given.len();
+        if room.len() < bytes {
+            return None;
+        }
+        put_counted(room, self.bytes, given);
+        Some(Self {
             bytes,
-            words,
-            right: false,
-        };
+            words: self.words,
+        })
     }
-    List {
-        bytes,
-        words: words + 1,
-        right: before.right,
+
+    // The list with a word more; none if this is no word, or cannot be put.
+    fn with_word(self, room: &mut [u8; LIST], word: &[u8]) -> Option<Self> {
+        let (name, text) = split_once(word, b" = ")?;
+        if MOST < self.words {
+            return None;
+        }
+        let put = self.with_bytes(room, name)?.with_bytes(room, text)?;
+        Some(Self {
+            bytes: put.bytes,
+            words: self.words + 1,
+        })
     }
 }
 
 // Puts the words of a field behind the list's count.
-fn put_words(list: &mut [u8], field: &[u8]) -> List
-    requires { 4 ≤ length list.old }
-    ensures { result.bytes ≤ length list.new }
-{
-    let mut put = List {
-        bytes: NUMBER,
-        words: 0,
-        right: true,
-    };
-    let mut sign = Sign { at: 0, past: 0 };
-    while sign.at < field.len() {
-        let from = sign.past;
-        sign = find_sign(field, from, b", ");
-        let end = sign.at;
-        put = put_word(list, put, &field[from..end]);
+fn put_words(room: &mut [u8; LIST], field: &[u8]) -> Option<List> {
+    let mut put = List::empty();
+    if field.is_empty() {
+        return Some(put);
     }
-    put
+    for word in Parts::of(field, b", ") {
+        put = put.with_word(room, word)?;
+    }
+    Some(put)
 }
 
-// Puts the list that a field stands for to the front of a buffer, which holds that of the line before.
-pub fn put_list(list: &mut [u8], field: &[u8], before: List) -> List
-    requires { (4 ≤ length list.old) × (before.bytes ≤ length list.old) }
-    ensures { result.bytes ≤ length list.new }
-{
-    if field == b"-".as_slice() {
-        return before;
+// Room for a list, and the last that was put to its front; none if there was none yet, or its field could not be read.
+#[derive(Drop)]
+pub struct Lists<'a> {
+    room: &'a mut [u8; LIST],
+    last: Option<List>,
+}
+
+impl<'a> Lists<'a> {
+    pub fn new(room: &'a mut [u8; LIST]) -> Self {
+        Self { room, last: None }
     }
-    let digits = past_sign(field, 0, b"0x");
-    if 0 < digits {
-        let put = put_hex(&field[digits..], list);
-        return List {
-            bytes: put.bytes,
-            words: 0,
-            right: put.all,
-        };
+
+    fn build(&mut self, field: &[u8]) -> Option<List> {
+        if field == b"-".as_slice() {
+            return self.last;
+        }
+        if let Some(digits) = field.strip_prefix(b"0x") {
+            let bytes = put_hex(digits, self.room)?;
+            return Some(List { bytes, words: 0 });
+        }
+        let list = put_words(self.room, field)?;
+        put_number(self.room, 0, list.words);
+        Some(list)
     }
-    let put = put_words(list, field);
-    put_number(list, 0, put.words);
-    put
+
+    // Puts the list that a field stands for.
+    pub fn put(&mut self, field: &[u8]) -> Option<List> {
+        self.last = self.build(field);
+        self.last
+    }
+
+    // The bytes of the list that was put last.
+    pub fn bytes_of(&self, list: List) -> &[u8] {
+        &self.room[..list.bytes]
+    }
 }
