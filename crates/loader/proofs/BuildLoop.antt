@@ -5,6 +5,7 @@ use mathlib.Core.List.{List, []}
 use native.Mathlib.Omega.{arith}
 use lib.ListN.{length}
 use Rattle.kinds.specs.Limits.{text_limit, token_limit}
+use Rattle.kinds.specs.declared.Cell.{Cell}
 use Rattle.plan.specs.Plan.{Plan, bare}
 use Rattle.plan.specs.Pieces.{pieces}
 use Rattle.plan.specs.Reading.{ACCEPTED, read}
