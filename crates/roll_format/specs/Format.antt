@@ -1,7 +1,7 @@
 -- The bytes of a roll: entries, one behind the other, and where they end; what an entry says; and an entry's bytes. Nothing here asks
 -- whether an entry is right.
 use Rattle.std.specs.Prelude.{ℕ, zero, suc, ◌-◌, cond, List, [], ◌∷◌, ◌++◌, eqb, length}
-use Rattle.std.specs.Prelude.{Option, None as none, Some as some}
+use Rattle.std.specs.Prelude.{Option, None, Some}
 use Rattle.stored.specs.Counted.{AtFront, CUT, FRONT, counted, four_bytes, largest, number, then_read, with_count}
 use Rattle.roll_format.specs.declared.EntryKind.{EntryKind}
 use Rattle.roll_format.specs.declared.EntryKind.TheVariants.{Filed, Done}
@@ -44,8 +44,8 @@ listing zero at (b ∷ bs) = then_listed at (entry (b ∷ bs)) (λ rest. listing
 
 -- a roll of no bytes lists nothing; any other starts with the byte `first`
 unfoldable pub roll : (first : ℕ) → List ℕ → Option Listing
-roll first [] = some (record { entries = []; end = 0 })
-roll first (b ∷ bs) = cond (eqb b first) (some (listing 0 1 bs)) none
+roll first [] = Some (record { entries = []; end = 0 })
+roll first (b ∷ bs) = cond (eqb b first) (Some (listing 0 1 bs)) None
 
 -- FILED has two sections, the job number and the text; DONE has one, the job number
 pub data EntrySays : Type 0 where

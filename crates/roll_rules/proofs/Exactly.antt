@@ -4,7 +4,7 @@ use Prim.Native.Nat.{ℕ}
 use mathlib.Core.Path.{◌≡◌, refl, ap, sym, ◌∙◌}
 use mathlib.Core.Logic.{◌↔◌, ◌≢◌}
 use mathlib.Core.Bool.{Bool, true, false, cond}
-use Rattle.std.specs.Prelude.{Option, None as none, Some as some}
+use Rattle.std.specs.Prelude.{Option, None, Some}
 use mathlib.Core.List.{List, [], ◌∷◌, reverse, reverse_aux}
 use Rattle.kinds.specs.Limits.{Limits}
 use Rattle.kinds.proofs.Tests.{never}
@@ -46,26 +46,26 @@ module _ (lim : Limits) (job : List ℕ) where
       go older NEITHER said e = older e
 
   -- where one stands, the job stands done behind all entries that obey the rules
-  still_done : (earlier : List Entry) (f : Entry) {place : ℕ} → fault lim earlier f ≡ none → standing job earlier ≡ DONE_AT place → standing job (f ∷ earlier) ≡ DONE_AT place
+  still_done : (earlier : List Entry) (f : Entry) {place : ℕ} → fault lim earlier f ≡ None → standing job earlier ≡ DONE_AT place → standing job (f ∷ earlier) ≡ DONE_AT place
   unfolding standing newest after_done unfinished
   still_done earlier f {place} fine stands = go (says f.parts) (said_fine lim earlier f fine refl)
     where
-      by : (j : List ℕ) (wrong : JobStanding → Option RollRefusal) → wrong (DONE_AT place) ≡ some (AlreadyDone place) → wrong (standing j earlier) ≡ none → (now : JobStanding) → (b : Bool)
+      by : (j : List ℕ) (wrong : JobStanding → Option RollRefusal) → wrong (DONE_AT place) ≡ Some (AlreadyDone place) → wrong (standing j earlier) ≡ None → (now : JobStanding) → (b : Bool)
           → same j job ≡ b → cond b now (standing job earlier) ≡ DONE_AT place
       by j wrong after may now false so = stands
       by j wrong after may now true so =
-          let clash : some (AlreadyDone place) ≡ none = sym after ∙ ap wrong (sym stands ∙ ap (λ k. standing k earlier) (sym (same_equal j job so))) ∙ may in never cc
+          let clash : Some (AlreadyDone place) ≡ None = sym after ∙ ap wrong (sym stands ∙ ap (λ k. standing k earlier) (sym (same_equal j job so))) ∙ may in never cc
 
-      go : (s : EntrySays) → fault_of lim earlier f.place s ≡ none → newest job f.place s (standing job earlier) ≡ DONE_AT place
+      go : (s : EntrySays) → fault_of lim earlier f.place s ≡ None → newest job f.place s (standing job earlier) ≡ DONE_AT place
       go (FILED j t) h = by j after_done refl (filed_fine lim earlier f.place j t h).2 (FILED_AT f.place t) (same j job) refl
       go (DONE j) h = by j (unfinished lim) refl (done_fine lim earlier f.place j h).1 (DONE_AT f.place) (same j job) refl
       go NEITHER h = stands
 
-  stays_done : (earlier es : List Entry) {place : ℕ} → broken lim earlier es ≡ none → standing job earlier ≡ DONE_AT place → standing job (reverse_aux es earlier) ≡ DONE_AT place
+  stays_done : (earlier es : List Entry) {place : ℕ} → broken lim earlier es ≡ None → standing job earlier ≡ DONE_AT place → standing job (reverse_aux es earlier) ≡ DONE_AT place
   stays_done earlier [] h stands = stands
   stays_done earlier (f ∷ es) h stands = let (fine, more) = first_fine lim earlier f es h in stays_done (f ∷ earlier) es more (still_done earlier f fine stands)
 
-  none_is_done : (earlier es : List Entry) → broken lim earlier es ≡ none → after_done (standing job (reverse_aux es earlier)) ≡ none → NoneDone es
+  none_is_done : (earlier es : List Entry) → broken lim earlier es ≡ None → after_done (standing job (reverse_aux es earlier)) ≡ None → NoneDone es
   unfolding standing newest after_done
   none_is_done earlier [] h may = tt
   none_is_done earlier (f ∷ es) h may =
@@ -73,17 +73,17 @@ module _ (lim : Limits) (job : List ℕ) where
         λ said.
             let now : standing job (f ∷ earlier) ≡ DONE_AT f.place =
             ap (λ s. newest job f.place s (standing job earlier)) said ∙ ap (λ (b : Bool). cond b (DONE_AT f.place) (standing job earlier)) (same_self job) in
-            let clash : some (AlreadyDone f.place) ≡ none = sym (ap after_done (stays_done (f ∷ earlier) es more now)) ∙ may in never cc,
+            let clash : Some (AlreadyDone f.place) ≡ None = sym (ap after_done (stays_done (f ∷ earlier) es more now)) ∙ may in never cc,
         none_is_done (f ∷ earlier) es more may,
       )
 
-  module _ (es : List Entry) (obeyed : broken lim [] es ≡ none) (e : Entry) where
+  module _ (es : List Entry) (obeyed : broken lim [] es ≡ None) (e : Entry) where
     pub record MayFile (text : List ℕ) : Type 0 where
       pub its_job : is_job job ≡ true
       pub its_text : is_printed lim text ≡ true
       pub none_done : NoneDone es
 
-    pub files_exactly : (text : List ℕ) → says e.parts ≡ FILED job text → (fault lim (reverse es) e ≡ none) ↔ MayFile text
+    pub files_exactly : (text : List ℕ) → says e.parts ≡ FILED job text → (fault lim (reverse es) e ≡ None) ↔ MayFile text
     unfolding fault fault_of after_done
     files_exactly text said = (
       λ fine.
@@ -92,7 +92,7 @@ module _ (lim : Limits) (job : List ℕ) where
       λ m. ap (fault_of lim (reverse es) e.place) said ∙ rw (m.its_job, m.its_text) (go (standing job (reverse es)) refl (none_done_turned es [] m.none_done tt)),
     )
       where
-        go : (s : JobStanding) → standing job (reverse es) ≡ s → NoneDone (reverse es) → after_done s ≡ none
+        go : (s : JobStanding) → standing job (reverse es) ≡ s → NoneDone (reverse es) → after_done s ≡ None
         go UNFILED is n = refl
         go (FILED_AT p t) is n = refl
         go (DONE_AT p) is n = absurd (not-standing-done (reverse es) n is)
@@ -104,7 +104,7 @@ module _ (lim : Limits) (job : List ℕ) where
       pub last : standing job (reverse es) ≡ FILED_AT place text
       pub ended : is_finished lim text ≡ true
 
-    pub closes_exactly : says e.parts ≡ DONE job → (fault lim (reverse es) e ≡ none) ↔ MayClose
+    pub closes_exactly : says e.parts ≡ DONE job → (fault lim (reverse es) e ≡ None) ↔ MayClose
     unfolding fault fault_of unfinished
     closes_exactly said = (
       λ fine.

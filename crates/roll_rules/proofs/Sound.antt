@@ -3,7 +3,7 @@ use Prim.Native.Nat.{ℕ, ◌≤◌}
 use mathlib.Core.Path.{◌≡◌, refl, ap, subst, ◌∙◌}
 use mathlib.Core.Logic.{◌⊎◌, inl, inr}
 use mathlib.Core.Bool.{Bool, true, false, cond}
-use Rattle.std.specs.Prelude.{Option, None as none, Some as some}
+use Rattle.std.specs.Prelude.{Option, None, Some}
 use mathlib.Core.List.{List, [], ◌∷◌}
 use native.Mathlib.Omega.{arith}
 use borrow.Author.Tests.{eqb-true, le-ltb, ltb-false}
@@ -33,7 +33,7 @@ pub record SoundRoll (bytes : List ℕ) (es : List Entry) (end : ℕ) : Type 0 w
   pub stand : EntriesStand bytes 1 es end
   pub within : end ≤ length bytes
   pub torn : entry (drop end bytes) ≡ CUT
-  pub obeyed : broken standard [] es ≡ none
+  pub obeyed : broken standard [] es ≡ None
 
 in_front-whole : (es : List Entry) (end : ℕ) → in_front es (record { entries = []; end = end }) ≡ record { entries = es; end = end }
 unfolding in_front with_first
@@ -72,7 +72,7 @@ reads_sound bytes {es} {end} e = by_length (ltb longest (length bytes)) refl e
   where
     by_listing : (b : ℕ) (bs : List ℕ) → length (b ∷ bs) ≤ longest → b ≡ 1 → (x : Option ℕ) → broken standard [] (listing 0 1 bs).entries ≡ x → unbroken x (listing 0 1 bs) ≡ ENTRIES es end
         → SoundRoll (b ∷ bs) es end
-    by_listing b bs short one none obeys h =
+    by_listing b bs short one None obeys h =
         let listed : (listing 0 1 bs).entries ≡ es = cc in
         let ends : (listing 0 1 bs).end ≡ end = cc in
         let (up, within) = listing_stands_up (b ∷ bs) 1 (omega arith) in
@@ -82,11 +82,11 @@ reads_sound bytes {es} {end} e = by_length (ltb longest (length bytes)) refl e
           stand = subst (λ k. EntriesStand (b ∷ bs) 1 es k) ends (subst (λ fs. EntriesStand (b ∷ bs) 1 fs (listing 0 1 bs).end) listed up);
           within = omega (arith, ends, within);
           torn = subst (λ k. entry (drop k (b ∷ bs)) ≡ CUT) ends (listing_torn (b ∷ bs) 1 (omega arith));
-          obeyed = subst (λ fs. broken standard [] fs ≡ none) listed obeys;
+          obeyed = subst (λ fs. broken standard [] fs ≡ None) listed obeys;
         }
-    by_listing b bs short one (some p) obeys h = never cc
+    by_listing b bs short one (Some p) obeys h = never cc
 
-    by_first : (b : ℕ) (bs : List ℕ) → length (b ∷ bs) ≤ longest → (t : Bool) → eqb b 1 ≡ t → by_rules standard (cond t (some (listing 0 1 bs)) none) ≡ ENTRIES es end
+    by_first : (b : ℕ) (bs : List ℕ) → length (b ∷ bs) ≤ longest → (t : Bool) → eqb b 1 ≡ t → by_rules standard (cond t (Some (listing 0 1 bs)) None) ≡ ENTRIES es end
         → SoundRoll (b ∷ bs) es end
     by_first b bs short true one h = by_listing b bs short (eqb-true b 1 one) (broken standard [] (listing 0 1 bs).entries) refl h
     by_first b bs short false one h = never cc

@@ -3,7 +3,7 @@
 -- here, and the words of reading a text, of rewriting and of what is stored.
 use Prim.Native.Nat.{ℕ}
 use mathlib.Core.Path.{◌≡◌, refl}
-use Rattle.std.specs.Prelude.{None as none}
+use Rattle.std.specs.Prelude.{None}
 use mathlib.Core.List.{List, [], ◌∷◌}
 use lib.ListN.{replicate}
 use Rattle.kinds.specs.Limits.{standard}
@@ -28,7 +28,7 @@ filing = record { place = 1; parts = job ∷ text ∷ [] }
 abbrev closing : Entry
 closing = record { place = 17; parts = job ∷ [] }
 
-unfoldable pub weighing : (fault standard [] filing ≡ none) × (fault standard (filing ∷ []) closing ≡ none)
+unfoldable pub weighing : (fault standard [] filing ≡ None) × (fault standard (filing ∷ []) closing ≡ None)
 unfolding running read_answer storing fault fault_of says digits is_job is_printed is_finished finished is_none standing newest after_done unfinished
 weighing = (refl, refl)
 

@@ -1,6 +1,6 @@
 -- What the services of the roll answer and leave, for every input.
 use Rattle.std.specs.Prelude.{ℕ, ◌+◌, min, Bool, false, cond, List, [], ◌∷◌, ◌++◌, map, reverse, eqb, leb, ltb, length, take, drop}
-use Rattle.std.specs.Prelude.{Option, None as none, Some as some, Result, Ok, Err}
+use Rattle.std.specs.Prelude.{Option, None, Some, Result, Ok, Err}
 use Rattle.plan.specs.Options.{◌else◌}
 use Rattle.kinds.specs.Limits.{Limits, standard}
 use Rattle.stored.specs.Counted.{AtFront, CUT, FRONT, largest}
@@ -74,12 +74,12 @@ pub data Judged : Type 0 where
   REFUSED : RollRefusal → Judged
 
 unfoldable pub unbroken : Option ℕ → Listing → Judged
-unbroken none l = ENTRIES l.entries l.end
-unbroken (some place) l = REFUSED (BadRoll place)
+unbroken None l = ENTRIES l.entries l.end
+unbroken (Some place) l = REFUSED (BadRoll place)
 
 unfoldable pub by_rules : Limits → Option Listing → Judged
-by_rules lim none = REFUSED (BadRoll 0)
-by_rules lim (some l) = unbroken (broken lim [] l.entries) l
+by_rules lim None = REFUSED (BadRoll 0)
+by_rules lim (Some l) = unbroken (broken lim [] l.entries) l
 
 unfoldable pub judged : Edition → List ℕ → Judged
 judged ed bytes = cond (ltb longest (length bytes)) (REFUSED TooLong) (by_rules ed.limits (roll ed.first bytes))
@@ -146,11 +146,11 @@ added_entry ed buffer earlier end parts =
     }
 
 unfoldable pub no_room : (room end : ℕ) → Option RollRefusal
-no_room room end = cond (leb end room) none (some (NoRoom (min end largest)))
+no_room room end = cond (leb end room) None (Some (NoRoom (min end largest)))
 
 unfoldable pub unless : Option RollRefusal → (buffer : List ℕ) → Added → Added
-unless none buffer added = added
-unless (some r) buffer added = not_added buffer r
+unless None buffer added = added
+unless (Some r) buffer added = not_added buffer r
 
 -- a roll that does not read is refused first, then an entry with which something is wrong, and lack of room last
 unfoldable pub add_to : Edition → (buffer : List ℕ) → Judged → (parts : List (List ℕ)) → Added

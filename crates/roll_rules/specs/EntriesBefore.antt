@@ -1,7 +1,7 @@
 -- The entries of a roll that stand before a place and obey the rules: what a walk over a roll has passed, and what they come to with one
 -- more. For the code and the laws; no answer is told by it.
 use Rattle.std.specs.Prelude.{ℕ, ◌+◌, ◌≤◌, ◌<◌, ◌≡◌, Bool, List, [], reverse, length}
-use Rattle.std.specs.Prelude.{None as none}
+use Rattle.std.specs.Prelude.{None}
 use Rattle.kinds.specs.Limits.{standard}
 use Rattle.roll_rules.specs.Answers.{grown}
 use Rattle.roll_format.specs.Format.{Entry, longest}
@@ -15,7 +15,7 @@ pub record EntriesBefore (bytes : List ℕ) (es : List Entry) (upto : ℕ) : Typ
   pub within : upto ≤ length bytes
   pub none_there : upto ≡ 0 → es ≡ []
   pub stand : 0 < upto → EntriesStand bytes 1 es upto
-  pub obeyed : broken standard [] es ≡ none
+  pub obeyed : broken standard [] es ≡ None
 
 -- some entries stand before the place
 pub record HasEntriesBefore (bytes : List ℕ) (upto : ℕ) : Type 0 where

@@ -1,7 +1,7 @@
 -- What the entries of a roll must obey, and what they add up to. Nothing here looks at the roll's bytes. Earlier entries are given the
 -- newest first.
 use Rattle.std.specs.Prelude.{ℕ, suc, Bool, true, false, cond, ◌&&◌, List, [], ◌∷◌, leb, ltb, length}
-use Rattle.std.specs.Prelude.{Option, None as none, Some as some}
+use Rattle.std.specs.Prelude.{Option, None, Some}
 use Rattle.plan.specs.Options.{is_none}
 use Rattle.plan.specs.Plan.{print}
 use Rattle.plan.specs.Reading.{plan_of}
@@ -48,31 +48,31 @@ standing job (e ∷ earlier) = newest job e.place (says e.parts) (standing job e
 
 -- a FILED and a DONE are both refused after that job's DONE
 unfoldable pub after_done : JobStanding → Option RollRefusal
-after_done UNFILED = none
-after_done (FILED_AT place text) = none
-after_done (DONE_AT place) = some (AlreadyDone place)
+after_done UNFILED = None
+after_done (FILED_AT place text) = None
+after_done (DONE_AT place) = Some (AlreadyDone place)
 
 -- DONE is refused unless that job's last FILED text has no ready operator
 unfoldable pub unfinished : Limits → JobStanding → Option RollRefusal
-unfinished lim UNFILED = some Unfiled
-unfinished lim (FILED_AT place text) = cond (is_finished lim text) none (some (Unfinished place))
-unfinished lim (DONE_AT place) = some (AlreadyDone place)
+unfinished lim UNFILED = Some Unfiled
+unfinished lim (FILED_AT place text) = cond (is_finished lim text) None (Some (Unfinished place))
+unfinished lim (DONE_AT place) = Some (AlreadyDone place)
 
 -- What is wrong with an entry behind the earlier ones, in the order in which it is asked. Nothing is wrong with an entry that obeys the
 -- rules. The reader refuses a roll by the place of an entry with which something is wrong; adding tells what is wrong with a new entry.
 unfoldable pub fault_of : Limits → (earlier : List Entry) → (place : ℕ) → EntrySays → Option RollRefusal
 fault_of lim earlier place (FILED job text) =
-    cond (is_job job) (cond (is_printed lim text) (after_done (standing job earlier)) (some BadText)) (some BadJob)
-fault_of lim earlier place (DONE job) = cond (is_job job) (unfinished lim (standing job earlier)) (some BadJob)
-fault_of lim earlier place NEITHER = some (BadRoll place)
+    cond (is_job job) (cond (is_printed lim text) (after_done (standing job earlier)) (Some BadText)) (Some BadJob)
+fault_of lim earlier place (DONE job) = cond (is_job job) (unfinished lim (standing job earlier)) (Some BadJob)
+fault_of lim earlier place NEITHER = Some (BadRoll place)
 
 unfoldable pub fault : Limits → (earlier : List Entry) → Entry → Option RollRefusal
 fault lim earlier e = fault_of lim earlier e.place (says e.parts)
 
 -- the place of the first entry that breaks a rule
 unfoldable pub broken : Limits → (earlier es : List Entry) → Option ℕ
-broken lim earlier [] = none
-broken lim earlier (e ∷ es) = cond (is_none (fault lim earlier e)) (broken lim (e ∷ earlier) es) (some e.place)
+broken lim earlier [] = None
+broken lim earlier (e ∷ es) = cond (is_none (fault lim earlier e)) (broken lim (e ∷ earlier) es) (Some e.place)
 
 -- jobs with a FILED entry, each once; and jobs with a DONE
 unfoldable pub is_new : JobStanding → Bool

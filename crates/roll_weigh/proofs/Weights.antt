@@ -2,7 +2,7 @@
 use Prim.Native.Nat.{ℕ, ◌≤◌}
 use mathlib.Core.Path.{◌≡◌, refl, ap, sym, subst, ◌∙◌}
 use mathlib.Core.Bool.{Bool, true, false, cond}
-use Rattle.std.specs.Prelude.{None as none, Some as some}
+use Rattle.std.specs.Prelude.{None, Some}
 use mathlib.Core.List.{List, reverse}
 use native.Mathlib.Omega.{arith}
 use Rattle.std.specs.Prelude.{Err}
@@ -30,14 +30,14 @@ use Rattle.roll_weigh.specs.Weighed.{Weighed, fine, weighed_at, weighed_done, we
 module _ (earlier : List Entry) (job text : List ℕ) {t : Bool} (told : t ≡ is_printed standard text) where
   pub not-printed : t ≡ false → Err BadText ≡ weighed_filed earlier job text
   unfolding weighed_filed
-  not-printed h = sym (ap (λ (b : Bool). weight_told (cond b (after_done (standing job earlier)) (some BadText)) (is_new (standing job earlier)) false) (sym told ∙ h))
+  not-printed h = sym (ap (λ (b : Bool). weight_told (cond b (after_done (standing job earlier)) (Some BadText)) (is_new (standing job earlier)) false) (sym told ∙ h))
 
   module _ (h : t ≡ true) where
     filed_by : (s : JobStanding) → s ≡ standing job earlier → weight_told (after_done s) (is_new s) false ≡ weighed_filed earlier job text
     unfolding weighed_filed
     filed_by s is =
         ap (λ (x : JobStanding). weight_told (after_done x) (is_new x) false) is
-        ∙ sym (ap (λ (b : Bool). weight_told (cond b (after_done (standing job earlier)) (some BadText)) (is_new (standing job earlier)) false) (sym told ∙ h))
+        ∙ sym (ap (λ (b : Bool). weight_told (cond b (after_done (standing job earlier)) (Some BadText)) (is_new (standing job earlier)) false) (sym told ∙ h))
 
     pub filed_new : UNFILED ≡ standing job earlier → fine true false ≡ weighed_filed earlier job text
     unfolding after_done is_new
@@ -67,15 +67,15 @@ module _ (earlier : List Entry) (job : List ℕ) where
   done_again {place} is = done_by (DONE_AT place) is
 
   module _ {place : ℕ} {text : List ℕ} (is : FILED_AT place text ≡ standing job earlier) {u : Bool} (b : u ≡ is_finished standard text) where
-    by_text : weight_told (cond u none (some (Unfinished place))) false true ≡ weighed_done earlier job
+    by_text : weight_told (cond u None (Some (Unfinished place))) false true ≡ weighed_done earlier job
     unfolding unfinished
-    by_text = ap (λ (x : Bool). weight_told (cond x none (some (Unfinished place))) false true) b ∙ done_by (FILED_AT place text) is
+    by_text = ap (λ (x : Bool). weight_told (cond x None (Some (Unfinished place))) false true) b ∙ done_by (FILED_AT place text) is
 
     pub done-finished : u ≡ true → fine false true ≡ weighed_done earlier job
-    done-finished f = sym (ap (λ (x : Bool). weight_told (cond x none (some (Unfinished place))) false true) f) ∙ by_text
+    done-finished f = sym (ap (λ (x : Bool). weight_told (cond x None (Some (Unfinished place))) false true) f) ∙ by_text
 
     pub done-unfinished : u ≡ false → Err (Unfinished place) ≡ weighed_done earlier job
-    done-unfinished f = sym (ap (λ (x : Bool). weight_told (cond x none (some (Unfinished place))) false true) f) ∙ by_text
+    done-unfinished f = sym (ap (λ (x : Bool). weight_told (cond x None (Some (Unfinished place))) false true) f) ∙ by_text
 
 -- what was found of how the job stands; the text of a FILED of the roll was accepted already: it shows a plan, and is finished where
 -- that plan is

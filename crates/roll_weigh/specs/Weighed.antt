@@ -1,6 +1,6 @@
 -- What the code says of an entry: what is wrong with it, or what it adds to the tally.
 use Rattle.std.specs.Prelude.{ℕ, Bool, true, false, cond, List, Result, Ok, Err}
-use Rattle.std.specs.Prelude.{Option, None as none, Some as some}
+use Rattle.std.specs.Prelude.{Option, None, Some}
 use Rattle.kinds.specs.Limits.{standard}
 use Rattle.roll_format.specs.Format.{Entry, says}
 use Rattle.roll_rules.specs.Rules.{after_done, counts_done, counts_filed, fault, is_new, is_printed, standing, unfinished}
@@ -16,8 +16,8 @@ abbrev pub fine : (filed done : Bool) → Weighed
 fine filed done = Ok (record { filed = filed; done = done })
 
 abbrev pub weight_told : Option RollRefusal → (filed done : Bool) → Weighed
-weight_told none filed done = fine filed done
-weight_told (some r) filed done = Err r
+weight_told None filed done = fine filed done
+weight_told (Some r) filed done = Err r
 
 -- the entry with these sections at a place
 unfoldable pub weighed_at : (earlier : List Entry) → (place : ℕ) → (parts : List (List ℕ)) → Weighed
@@ -26,7 +26,7 @@ weighed_at earlier place parts =
 
 -- the same of an entry of each kind whose job number is right
 unfoldable pub weighed_filed : (earlier : List Entry) → (job text : List ℕ) → Weighed
-weighed_filed earlier job text = weight_told (cond (is_printed standard text) (after_done (standing job earlier)) (some BadText)) (is_new (standing job earlier)) false
+weighed_filed earlier job text = weight_told (cond (is_printed standard text) (after_done (standing job earlier)) (Some BadText)) (is_new (standing job earlier)) false
 
 unfoldable pub weighed_done : (earlier : List Entry) → (job : List ℕ) → Weighed
 weighed_done earlier job = weight_told (unfinished standard (standing job earlier)) false true
