@@ -3,8 +3,9 @@
 // for no fault, since there is none.
 #![tactic(auto)]
 
-ghost use Rattle.std.specs.Prelude.{◌≡◌, ℕ, suc, ◌+◌, ◌-◌, ◌<◌, ◌≤◌, List, length, drop};
+ghost use Rattle.std.specs.Prelude.{◌≡◌, ◌==◌, ℕ, suc, ◌+◌, ◌-◌, ◌<◌, ◌≤◌, List, length, drop, position};
 ghost use Rattle.kinds.specs.Limits.{text_limit, token_limit};
+ghost use Rattle.plan.specs.Plan.{close_brace};
 ghost use Rattle.plan.specs.Pieces.{Found, Piece as PlanPiece, Shows};
 ghost use Rattle.std.specs.Iterator.{at_most};
 ghost use Rattle.items.specs.Walk.{Begins, Gives, MarkAt, MarkFrom, PieceFrom, ShowsAhead, TokenFrom, Walked, at_place, one_token};
@@ -45,16 +46,19 @@ pub struct Walk<'a> {
     at: usize,
 }
 
+// Where the first `}` stands.
+fn first_brace(text: &[u8]) -> Option<usize>
+    ensures { result ≡ position (λ b. b == close_brace) text.now }
+{
+    text.iter().position(|byte| *byte == b'}')
+}
+
 // The place of the `}` that ends a token. `from` is the place right behind the token's `{`.
 fn token_end(text: &[u8], from: usize) -> usize
     requires { (t : List ℕ) × Found token_limit (drop from text.now) t }
     ensures { (t : List ℕ) → Found token_limit (drop from text.now) t → result ≡ from + length t }
 {
-    let mut at = from;
-    while text[at] != b'}' {
-        at += 1;
-    }
-    at
+    from + first_brace(&text[from..]).unwrap()
 }
 
 fn token_piece(text: &[u8], at: usize) -> Placed

@@ -1,11 +1,20 @@
-use Rattle.items.proofs.TokenEnd.{within_end, within_more, within_start}
+-- `token_end`: the first `}` is the one behind the token's text.
+use Rattle.std.proofs.Common.{rules, refl, ap, ◌≡◌, ◌∙◌, ◌+◌, length, arith}
+use Rattle.items.proofs.TokenEnd.{brace_found, brace_inside}
 use Rattle.items.proofs.token_end.Goals as goal
 
-pub loop-at-init : goal.loop-at-init
-loop-at-init c = within_start _ _ c.requires.0 c.requires.1
+pub slice_bounds-first_brace-count : goal.slice_bounds-first_brace-count
+slice_bounds-first_brace-count c = omega (arith, brace_inside c.args.text.now c.args.from c.requires.1)
 
-pub loop-at-preserved : goal.loop-at-preserved
-loop-at-preserved c = within_more c.loop-at.invariant c.loop-at-test.true
+pub slice_bounds-first_brace-start : goal.slice_bounds-first_brace-start
+slice_bounds-first_brace-start c = let inside = brace_inside c.args.text.now c.args.from c.requires.1 in search rules
+
+pub unwrap-requires : goal.unwrap-requires
+unwrap-requires c = rw (c.first_brace.ensures ∙ brace_found c.args.text.now c.args.from c.requires.1) refl
 
 pub returns : goal.returns
-returns c = within_end c.loop-at.invariant c.loop-at-test.false
+returns c = λ t f.
+    let there = c.first_brace.ensures ∙ brace_found c.args.text.now c.args.from f in
+    let result = c.unwrap.ensures in
+    let same : c.unwrap.result ≡ length t = cc in
+    ap (c.args.from +◌) same
