@@ -64,8 +64,7 @@ fn is_new_name(shelf: &Shelf, name: &[u8]) -> bool
     is_name(name) && shelf.find(name).is_none()
 }
 
-// Judges the word that begins at a place of the list, behind the words of the shelf, by itself and beside their names: where it stands, if it
-// fits.
+// Judges the word at a place of the list, behind the words of the shelf: by itself, and beside their names. Where it stands, if it fits.
 fn check_word(shelf: &Shelf, at: usize) -> Option<WordAt>
     ensures { MatchOption result (fit_front standard (words_to shelf.now.list.now shelf.now.words.now shelf.now.below) (word_ahead shelf.now.list.now at) ≡ false) (λ w. FitThere shelf.now.list.now (words_to shelf.now.list.now shelf.now.words.now shelf.now.below) at w) }
 {

@@ -16,7 +16,7 @@ pub const MOST: usize = 256;
 // The most bytes of a name: `{`, `%` and `}` are the token's and not the name's.
 pub const NAME_LIMIT: usize = Token::LIMIT - 3;
 
-// Why a call is refused, with the place that goes with it. A call that is not refused answers the linked plan's `plan::Size`.
+// Why a call of LINK is refused, with the place that goes with it. One that is not refused answers the `Size` of the linked plan.
 #[derive(Clone, Copy, PartialEq, Eq)]
 pub enum LinkRefusal {
     // The least rank at fault.
@@ -27,11 +27,12 @@ pub enum LinkRefusal {
     OutShort(u32),
 }
 
+// A text's fault is passed on.
 impl From<TextFault> for LinkRefusal {
     ghost from_gives = { λ f r. r ≡ Text f };
 
-    fn from(fault: TextFault) -> LinkRefusal {
-        LinkRefusal::Text(fault)
+    fn from(fault: TextFault) -> Self {
+        Self::Text(fault)
     }
 }
 

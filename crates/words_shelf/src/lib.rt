@@ -17,9 +17,10 @@ pub struct WordAt {
     pub text: Span,
 }
 
-// Where the words of a list stand, by their ranks. Behind the last word there is none.
+// Where the words of a list stand, by their ranks.
 pub type Words = [WordAt; MOST];
 
+// What stands there for a rank whose word was not found yet.
 pub const NO_WORD: WordAt = WordAt {
     name: Span { at: 0, len: 0 },
     text: Span { at: 0, len: 0 },
