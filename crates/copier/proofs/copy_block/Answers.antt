@@ -1,4 +1,5 @@
 -- `copy_block`: what stands in the memory before the loop is `Prepared`, and each turn is the lemma `walk_on`.
+use Rattle.std.proofs.Common.{arith}
 use Rattle.memory.proofs.Compared.{apart, met}
 use Rattle.copier.proofs.CopyLoop.{block_small, block_start, copy_small, has_copy, port_low, prepared, walk_end, walk_first, walk_less, walk_like, walk_on, walk_ready}
 use Rattle.copier.proofs.copy_block.Goals as goal
@@ -38,7 +39,7 @@ loop-end-preserved c =
     walk_on c.loop-end.invariant (apart c.ne.ensures c.loop-end-test.true) c.put_like.ensures _ c.link_of-port-in-loop-end.ensures
 
 pub close-requires : goal.close-requires
-close-requires c = copy_small c.requires
+close-requires c = omega (arith, copy_small c.requires, c.loop-end.held.lent.few)
 
 pub set_link-requires : goal.set_link-requires
 set_link-requires c = (walk_ready c.loop-end.invariant).tail

@@ -1,6 +1,7 @@
 -- `scan`: what each call requires, and each turn of the loop, are the lemmas of `Scanning`.
+use Rattle.std.proofs.Common.{le_of_lt}
 use Rattle.memory.proofs.Compared.{apart, met}
-use Rattle.hunt.proofs.Scanning.{scan_first, scan_here, scan_cell, scan_next, scan_past, scan_found, scan_none}
+use Rattle.hunt.proofs.Scanning.{scan_first, scan_here, scan_low, scan_cell, scan_next, scan_past, scan_found, scan_none}
 use Rattle.hunt.proofs.scan.Goals as goal
 
 pub loop-end-init : goal.loop-end-init
@@ -19,7 +20,8 @@ end_port-last-requires c = scan_cell c.loop-end.invariant (apart c.ne.ensures c.
 
 pub link_of-at-requires-in-loop-end : goal.link_of-at-requires-in-loop-end
 link_of-at-requires-in-loop-end c =
-    scan_next c.loop-end.invariant (apart c.ne.ensures c.loop-end-test.true) _ _ c.end_port-last.ensures
+    let more = apart c.ne.ensures c.loop-end-test.true in
+    search (scan_next, scan_low, le_of_lt)
 
 pub loop-end-preserved : goal.loop-end-preserved
 loop-end-preserved c =
