@@ -1,4 +1,6 @@
 // The entry of a line of standard input: put into a roll, and what the roll is to read as with it.
+ghost use Rattle.std.specs.Prelude.{◌≡◌, max};
+
 use roll_add::{Entered, done_entry, file_entry};
 use roll_rules::{Counts, RollRefusal, Sums};
 
@@ -34,7 +36,9 @@ pub const NEXT: NewEntry<'static> = NewEntry {
 };
 
 // The first byte of a roll is before its entries, and no bytes are a roll too.
-pub fn start_of(place: u32) -> u32 {
+pub fn start_of(place: u32) -> u32
+    ensures { result ≡ max place 1 }
+{
     place.max(1)
 }
 

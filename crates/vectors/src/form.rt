@@ -1,7 +1,7 @@
 // The fields of a line: numbers in decimal, and bytes as runs of a pattern in hex.
 //
 // A SP or an LF ends a field. Where a field is missing or malformed there is none, and the line is no case.
-ghost use Rattle.std.specs.Prelude.{IfSome, ◌≤◌, length};
+ghost use Rattle.std.specs.Prelude.{◌≡◌, ◌+◌, ◌≤◌, IfSome, length};
 
 use lines::{number_of, put_hex};
 
@@ -70,7 +70,9 @@ impl<'a> Fields<'a> {
     }
 
     // The bytes that runs stand for, put to the front of the room, and the room behind them.
-    pub fn bytes<'r>(&mut self, room: &'r mut [u8]) -> Option<(&'r [u8], &'r mut [u8])> {
+    pub fn bytes<'r>(&mut self, room: &'r mut [u8]) -> Option<(&'r [u8], &'r mut [u8])>
+        ensures { IfSome result (λ cut. length cut.0.now + length cut.1.now ≡ length room.old) }
+    {
         let filled = self.put(room)?;
         let (bytes, left) = room.split_at_mut(filled);
         Some((bytes, left))
