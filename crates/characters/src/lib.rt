@@ -1,7 +1,7 @@
 // The character of UTF-8 that stands at a place, and which characters a token may hold.
 #![tactic(auto)]
 
-ghost use Rattle.std.specs.Prelude.{◌≡◌, ◌+◌, ◌≤◌, length, drop, IfSome};
+ghost use Rattle.std.specs.Prelude.{◌≡◌, ◌+◌, ◌≤◌, length, drop, ◌∷◌, IfSome};
 ghost use Rattle.plan.specs.Token.{character, may_hold, value, well_formed};
 ghost use Rattle.characters.specs.Continued.{Room};
 
@@ -35,24 +35,33 @@ fn well_formed(width: u32, least: u32, value: u32) -> Option<Character>
     }
 }
 
-// The character of UTF-8 that these bytes begin with, if they begin one.
+// The character of several bytes that begins with this one, if these bytes follow it.
 #[tactic(auto, unfolding(plan::specs::Token::character, plan::specs::Token::well_formed))]
+fn longer_character(first: u32, rest: &[u8]) -> Option<Character>
+    requires { 0x80 ≤ first }
+    ensures { result ≡ character (first ∷ rest.now) }
+{
+    match first {
+        0xC0..=0xDF => well_formed(2, 0x80, following(rest, first - 0xC0, 1)?),
+        0xE0..=0xEF => well_formed(3, 0x800, following(rest, first - 0xE0, 2)?),
+        0xF0..=0xF7 => well_formed(4, 0x10000, following(rest, first - 0xF0, 3)?),
+        _ => None,
+    }
+}
+
+// The character of UTF-8 that these bytes begin with, if they begin one. Most characters are one byte.
+#[tactic(auto, unfolding(plan::specs::Token::character))]
 fn first_character(bytes: &[u8]) -> Option<Character>
     ensures { result ≡ character bytes.now }
 {
     let [first, rest @ ..] = bytes else {
         return None;
     };
-    let first = *first as u32;
-    match first {
-        0..=0x7F => Some(Character {
-            value: first,
-            width: 1,
-        }),
-        0xC0..=0xDF => well_formed(2, 0x80, following(rest, first - 0xC0, 1)?),
-        0xE0..=0xEF => well_formed(3, 0x800, following(rest, first - 0xE0, 2)?),
-        0xF0..=0xF7 => well_formed(4, 0x10000, following(rest, first - 0xF0, 3)?),
-        _ => None,
+    let value = *first as u32;
+    if value < 0x80 {
+        Some(Character { value, width: 1 })
+    } else {
+        longer_character(value, rest)
     }
 }
 
