@@ -6,7 +6,7 @@
 ghost use Rattle.std.specs.Prelude.{◌≡◌, ◌*◌, ◌<◌, set};
 ghost use Rattle.pieces.specs.Numbered.{operator_number};
 ghost use Rattle.memory.specs.Held.{held_numbers};
-ghost use Rattle.memory.specs.Lent.{Lent};
+ghost use Rattle.memory.specs.Lent.{Aside, Lent};
 ghost use Rattle.memory.specs.Memory.{start, close};
 ghost use Rattle.memory.specs.Model.{Apart, BuildEnded, Buildable, Fresh, PieceReady, Stepped, model, next_free, with_block, with_cell, with_close, with_item, with_numbers, with_piece, with_place, with_token};
 ghost use Rattle.memory.specs.Numbered.{kind_number};
@@ -57,6 +57,7 @@ pub fn fresh<'a>(numbers: &'a mut [u32], outer: Cell) -> Held<'a>
     ensures all_free { Fresh result }
     ensures same_cells { result.outer ≡ outer }
     ensures same_numbers { result.numbers.ghost_name ≡ numbers.entry.ghost_name }
+    ensures aside { Aside outer.0 numbers.old result.numbers.now }
 {
     let mut held = Held {
         numbers,

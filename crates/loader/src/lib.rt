@@ -6,7 +6,7 @@ ghost use Rattle.kinds.specs.Limits.{text_limit, token_limit};
 ghost use Rattle.plan.specs.Plan.{Plan};
 ghost use Rattle.plan.specs.Reading.{ACCEPTED, read};
 ghost use Rattle.memory.specs.Held.{HeldAlike};
-ghost use Rattle.memory.specs.Lent.{Lent};
+ghost use Rattle.memory.specs.Lent.{Aside, Lent};
 
 use builder::{end_plan, fresh, put_piece};
 use items::{Placed, Walk};
@@ -19,6 +19,7 @@ pub fn build_plan<'a>(text: &[u8], numbers: &'a mut [u32], outer: Cell) -> Held<
     ensures holds { (p : Plan ℕ) → read token_limit outer.0 text.now ≡ ACCEPTED p → HeldAlike text.now result p }
     ensures same_cells { result.outer ≡ outer }
     ensures same_numbers { result.numbers.ghost_name ≡ numbers.entry.ghost_name }
+    ensures aside { Aside outer.0 numbers.old result.numbers.now }
 {
     let mut held = fresh(numbers, outer);
     for Placed { piece, .. } in Walk::over(text) {

@@ -1,6 +1,6 @@
 -- What is being built is always ready for the builder's next step.
 use Prim.Native.Nat.{ℕ, ◌≤◌, ◌<◌}
-use mathlib.Core.Path.{◌≡◌, refl, ap, ◌∙◌}
+use mathlib.Core.Path.{◌≡◌, refl, ap, ◌∙◌, subst}
 use mathlib.Core.List.{List, ◌∷◌, ◌++◌}
 use native.Mathlib.Omega.{arith}
 use Rattle.kinds.specs.declared.Cell.{Cell}
@@ -9,10 +9,12 @@ use Rattle.plan.specs.Reading.{Around, outermost, inside}
 use Rattle.plan.specs.Pieces.{seen}
 use Rattle.memory.specs.Memory.{Building}
 use Rattle.memory.specs.Held.{SameCells}
+use Rattle.memory.specs.Lent.{Aside}
 use Rattle.memory.specs.Model.{Buildable, Built, Model, Stepped, model}
 use Rattle.memory.specs.declared.Held.{Held}
 use Rattle.memory.proofs.Building.{root_low, tail_within}
 use Rattle.memory.proofs.Lists.{below_split}
+use Rattle.memory.proofs.Whole.{aside_on, aside_same}
 
 pub opened-lent : {text : List ℕ} {n : ℕ} {w : List ℕ} {root : ℕ} {others : List ℕ} {tail opened free c : ℕ} {before here : Plan ℕ} {out : Around}
     → Building text n w root others tail opened free (inside c before out) here → opened < n
@@ -41,10 +43,15 @@ building_ready {out = out} e h =
 -- one step after the other
 
 pub same_at : {h : Held} → SameCells h h
-same_at = record { outer = refl; lent = refl }
+same_at = record { outer = refl; lent = refl; aside = aside_same }
 
 pub same_on : {h h₁ h₂ : Held} → SameCells h h₁ → SameCells h₁ h₂ → SameCells h h₂
-same_on p q = record { outer = q.outer ∙ p.outer; lent = q.lent ∙ p.lent }
+same_on {h} {h₁} {h₂} p q =
+    record {
+      outer = q.outer ∙ p.outer;
+      lent = q.lent ∙ p.lent;
+      aside = aside_on p.aside (subst (λ (c : Cell). Aside c.0 h₁.numbers.now h₂.numbers.now) p.outer q.aside);
+    }
 
 pub cells_same : {h h' : Held} → SameCells h h' → h'.outer.0 ≡ h.outer.0
 cells_same p = ap (λ (c : Cell). c.0) p.outer

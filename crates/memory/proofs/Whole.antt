@@ -1,14 +1,24 @@
 -- The numbers of the lent cells with the outermost start behind them are one list: a link is read from it and stored to it
 -- in the same way, wherever it is kept.
 use Prim.Native.Nat.{ℕ, ◌+◌, ◌*◌, ◌<◌}
-use mathlib.Core.Path.{◌≡◌, ap, sym, ◌∙◌}
+use mathlib.Core.Path.{◌≡◌, refl, ap, sym, ◌∙◌}
 use mathlib.Core.List.{List, [], ◌∷◌, ◌++◌, append_assoc}
 use native.Mathlib.Omega.{arith}
-use lib.ListN.{length, get_or, take, set, length-append, get_or-append}
-use lib.Seq.{get_or-append-add, get_or-take, length-take-le, set-append_left, set_at, take-set-lt}
+use lib.ListN.{length, get_or, take, set, length-append, length-set, get_or-append}
+use lib.Seq.{drop-set-lt, get_or-append-add, get_or-take, length-take-le, set-append_left, set_at, take-set-lt}
 use Rattle.kinds.specs.Limits.{cell_numbers}
 use Rattle.memory.specs.Memory.{start, link, whole, block_kind}
-use Rattle.memory.specs.Lent.{Lent}
+use Rattle.memory.specs.Lent.{Aside, Lent}
+
+-- what changes lent cells alone leaves the rest as it was, one change after the other
+pub aside_same : {n : ℕ} {m : List ℕ} → Aside n m m
+aside_same = record { as_long = refl; rest = refl }
+
+pub aside_on : {n : ℕ} {m m' m'' : List ℕ} → Aside n m m' → Aside n m' m'' → Aside n m m''
+aside_on p q = record { as_long = q.as_long ∙ p.as_long; rest = q.rest ∙ p.rest }
+
+pub aside_set : (n : ℕ) (m : List ℕ) (i a : ℕ) → i < cell_numbers * n → Aside n m (set m i a)
+aside_set n m i a h = record { as_long = length-set m i a; rest = drop-set-lt (cell_numbers * n) m i a h }
 
 module _ (n : ℕ) (m : List ℕ) (first : ℕ) (lent : Lent n m) where
   front : length (take (cell_numbers * n) m) ≡ cell_numbers * n

@@ -2,6 +2,7 @@
 -- And where a block stands in such a plan.
 use Rattle.std.specs.Prelude.{ℕ, ◌≡◌, ◌⊎◌, List}
 use Rattle.plan.specs.Plan.{Plan, end, operator, token, block, bare}
+use Rattle.memory.specs.Lent.{Aside}
 use Rattle.memory.specs.Memory.{Holds, whole}
 use Rattle.memory.specs.declared.Held.{Held}
 
@@ -9,10 +10,11 @@ use Rattle.memory.specs.declared.Held.{Held}
 abbrev pub held_numbers : Held → List ℕ
 held_numbers h = whole h.outer.0 h.numbers.now h.first.0
 
--- the cells are the same, and so are the numbers lent for them
+-- the cells are the same, and so is what is lent for them; past them the numbers are as they were
 pub record SameCells (h h' : Held) : Type 0 where
   pub outer : h'.outer ≡ h.outer
   pub lent : h'.numbers.ghost_name ≡ h.numbers.ghost_name
+  pub aside : Aside h.outer.0 h.numbers.now h'.numbers.now
 
 -- the memory holds the plan t
 abbrev pub HeldIn : (text : List ℕ) → Held → Plan ℕ → Type 0

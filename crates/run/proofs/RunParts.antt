@@ -173,7 +173,7 @@ module _ (text : List ℕ) (n quota : ℕ) (out : List ℕ) where
 
 -- what a run stands on
 pub accepted_cell : (text : List ℕ) (n : ℕ) → length text ≤ text_limit → n ≤ cell_limit → {s : Size} → Ok s ≡ acceptance_told (accept standard n text)
-    → {outer : Cell} (m : List ℕ) → outer.0 ≡ n → length m ≡ cell_numbers * n → TextAccepted text m outer.0 s.cells
+    → {outer : Cell} (m : List ℕ) → outer.0 ≡ n → cell_numbers * n ≤ length m → TextAccepted text m outer.0 s.cells
 accepted_cell text n short few told m is lent =
     let found = told_plan n text told in
     rw is

@@ -37,19 +37,20 @@ fn print_plan(text: &[u8], held: &Held, ended: Ended, output: &mut [u8]) -> Resu
     })
 }
 
-// RUN of a text that was accepted, in the numbers of so many cells.
+// RUN of a text that was accepted, before the clearing.
 fn run_accepted(
     text: &[u8],
     quota: u32,
-    numbers: &mut [u32],
+    memory: &mut [u32],
     output: &mut [u8],
     outer: Cell,
     size: u32,
 ) -> Result<Ran, RunRefusal>
-    requires { TextAccepted text.now numbers.old outer.0 size }
-    ensures { Wrote run_family (run_read outer.0 quota (read token_limit outer.0 text.now)) output.old result output.new }
+    requires { TextAccepted text.now memory.old outer.0 size }
+    ensures written { Wrote run_family (run_read outer.0 quota (read token_limit outer.0 text.now)) output.old result output.new }
+    ensures as_long { length memory.new ≡ length memory.old }
 {
-    let mut held = build_plan(text, numbers, outer);
+    let mut held = build_plan(text, memory, outer);
     let ended = engine::run(text, &mut held, size, quota);
     print_plan(text, &held, ended, output)
 }
@@ -72,8 +73,7 @@ fn run_uncleared(
         return Err(RunRefusal::BadArena);
     }
     let size = accept(text, lent as u32)?;
-    let numbers = &mut memory[..Cell::NUMBERS * lent];
-    run_accepted(text, quota, numbers, output, Cell::new(lent), size.cells)
+    run_accepted(text, quota, memory, output, Cell::new(lent), size.cells)
 }
 
 pub fn run(

@@ -24,7 +24,7 @@ pub loop-end-preserved-then-not-closes : goal.loop-end-preserved-then-not-closes
 loop-end-preserved-then-not-closes c =
     let kept = c.keep_cell.ensures in
     drop-start c.loop-end.invariant (apart c.ne.ensures c.loop-end-test.true) _ c.link_of-next.ensures _
-    (ap (λ (s : Model). s.numbers) kept.steps) (record { outer = kept.same.outer; lent = kept.same.lent })
+    (ap (λ (s : Model). s.numbers) kept.steps) (record { outer = kept.same.outer; lent = kept.same.lent; aside = kept.same.aside })
     (is_start _ c.closes.ensures c.if-not-closes.true) c.cell-held.ensures
 
 pub loop-end-smaller : goal.loop-end-smaller

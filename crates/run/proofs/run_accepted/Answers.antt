@@ -12,7 +12,7 @@ print_plan-requires c =
     let built = c.build_plan-held.ensures in
     end_printable _ c.requires _ built.holds built.same_cells _ _ _ c.run-ended.ensures.ran
 
-pub returns : goal.returns
-returns c =
+pub returns-clause-written : goal.returns-clause-written
+returns-clause-written c =
     let built = c.build_plan-held.ensures in
     end_written _ c.requires _ built.holds built.same_cells _ _ _ c.run-ended.ensures.ran _ c.print_plan.ensures

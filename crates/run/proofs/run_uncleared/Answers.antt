@@ -1,7 +1,6 @@
 -- `run_uncleared`: 11, 12, a text that is not read, or the run of the accepted text.
 use Rattle.std.proofs.Common.{arith}
 use Rattle.std.proofs.lemmas.Result.{err_from_is_err_and}
-use lib.Seq.{length-take-le}
 use Rattle.run.proofs.RunParts.{accepted_cell, refused_arena, refused-text, refused_too_long, wrote_run}
 use Rattle.run.proofs.run_uncleared.Goals as goal
 
@@ -19,7 +18,7 @@ returns-in_err-size-clause-written c =
 pub run_accepted-requires : goal.run_accepted-requires
 run_accepted-requires c =
     accepted_cell _ _ c.if-text-gt-LIMIT.false (omega arith) {s = c.in_ok-size.size} c.in_ok-size.ensures _ c.new.ensures
-    (length-take-le _ _ (omega arith))
+    (omega arith)
 
 pub returns-clause-written : goal.returns-clause-written
-returns-clause-written c = wrote_run _ _ _ _ c.if-text-gt-LIMIT.false (omega arith) c.new.ensures c.run_accepted.ensures
+returns-clause-written c = wrote_run _ _ _ _ c.if-text-gt-LIMIT.false (omega arith) c.new.ensures c.run_accepted.ensures.written

@@ -9,4 +9,4 @@ unfolding released
 returns c =
     let kept = stored c.keep_cell.ensures in
     rw (sym c.start.ensures)
-    (record { numbers = kept.numbers; free = refl; same = record { outer = kept.same.outer; lent = kept.same.lent } })
+    (record { numbers = kept.numbers; free = refl; same = record { outer = kept.same.outer; lent = kept.same.lent; aside = kept.same.aside } })
