@@ -2,7 +2,6 @@
 use Prim.Native.Nat.{ℕ, ◌≤◌, ◌<◌}
 use mathlib.Core.Path.{◌≡◌, refl, ap, sym, ◌∙◌, subst}
 use mathlib.Core.Bool.{Bool, true, false, not}
-use Rattle.std.specs.Prelude.{Some as some}
 use mathlib.Core.List.{List}
 use native.Mathlib.Omega.{arith}
 use borrow.Author.Tests.{lt-leb}
@@ -63,7 +62,7 @@ module _ {text : List ℕ} {h : Held} {size : ℕ} {r : Option Spot} (finds : (t
 
     -- the next plan's cells, as `size_after` counts them
     module _ (after : ℕ) (counts : (f : Frame ℕ) (q q' : Plan ℕ) → Spotted text h spot size f q q' → after ≡ cells (plug f q')) where
-      is_next : (t : Plan ℕ) (s : Sized text h size t) → (next t ≡ some (plug (found t s).0 (found t s).2)) × (after ≡ cells (plug (found t s).0 (found t s).2))
+      is_next : (t : Plan ℕ) (s : Sized text h size t) → (next t ≡ Some (plug (found t s).0 (found t s).2)) × (after ≡ cells (plug (found t s).0 (found t s).2))
       is_next t s = ((found t s).5, counts (found t s).0 (found t s).1 (found t s).2 (spotted t s))
 
       pub turn_full : h.outer.0 < after → (more : Bool) → TurnMade text h size more h (Break Full)

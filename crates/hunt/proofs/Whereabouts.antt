@@ -6,9 +6,9 @@ use mathlib.Core.Path.{◌≡◌, refl, ap, ◌∙◌, subst}
 use mathlib.Core.Logic.{◌≢◌}
 use mathlib.Core.Bool.{true, false}
 use mathlib.Core.List.{List, [], ◌∷◌, ◌++◌, append_assoc}
-use Rattle.std.specs.Prelude.{None as none}
 use native.Mathlib.Omega.{arith}
 use borrow.Author.Tests.{eq-eqb, ne_eqb}
+use Rattle.std.specs.Prelude.{None}
 use Rattle.rules.specs.Frames.{Frame, top, within, plug, Ahead, Inside}
 use Rattle.plan.specs.Options.{under}
 use Rattle.plan.specs.Plan.{Plan, end, operator, token, block, ◌then◌, labels}
@@ -60,7 +60,7 @@ linked_tail w x [] h = tt
 linked_tail w x (y ∷ xs) h = h.1
 
 -- behind an opening where no operator of the sequence itself is ready
-pub pass_opening : {w : List ℕ} {n : ℕ} {t : Plan ℕ} {port : ℕ} (h : Opening w n t port) → leftmost h.q ≡ none → Passing w n t (link w port)
+pub pass_opening : {w : List ℕ} {n : ℕ} {t : Plan ℕ} {port : ℕ} (h : Opening w n t port) → leftmost h.q ≡ None → Passing w n t (link w port)
 pass_opening {w} {n} {t} {port} h e =
     let f = h.frame in
     record {
@@ -76,7 +76,7 @@ pass_opening {w} {n} {t} {port} h e =
 pub data Whereabouts (w : List ℕ) (n : ℕ) (t : Plan ℕ) (port : ℕ) : Type 0 where
   at_opening : Opening w n t port → block_opens w port ≡ true → port ≢ close n → Whereabouts w n t port
   passed : Passing w n t (link w port) → block_opens w port ≡ false → port ≢ close n → Whereabouts w n t port
-  at_end : next t ≡ none → port ≡ close n → Whereabouts w n t port
+  at_end : next t ≡ None → port ≡ close n → Whereabouts w n t port
 
 start-block_opens : (w : List ℕ) (c number : ℕ) → datum w (start c) ≡ number → block_opens w (start c) ≡ is_block (kind_of number)
 unfolding block_opens

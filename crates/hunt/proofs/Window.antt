@@ -4,7 +4,6 @@ use Prim.Native.Nat.{ℕ, ◌/◌, ◌%◌}
 use mathlib.Core.Path.{◌≡◌, refl, ap, sym, ◌∙◌, subst}
 use mathlib.Core.Logic.{◌≢◌}
 use mathlib.Core.List.{List, [], ◌∷◌, ◌++◌}
-use Rattle.std.specs.Prelude.{None as none}
 use native.Mathlib.Omega.{arith}
 use Rattle.plan.specs.Plan.{Plan, end, operator, token, block, ◌then◌}
 use Rattle.plan.specs.declared.Operator.{Operator}
@@ -78,7 +77,7 @@ module _ (s : ℕ) (q : Plan ℕ) (last second third c : ℕ) (p : Plan ℕ) whe
         subst Answer e (h.result, record { front = X; behind = p; before = at; rule = rw (older, newer, self) h.rule }, h.found_leftmost)
 
     -- the operators a and b are ready behind two blocks and not behind one
-    two_wanted : takes o ≡ 2 → ((m : ℕ) (A : Plan ℕ) → first_block m A (operator c o p) ≡ none)
+    two_wanted : takes o ≡ 2 → ((m : ℕ) (A : Plan ℕ) → first_block m A (operator c o p) ≡ None)
         → ((l : ℕ) (B : Plan ℕ) (m : ℕ) (A : Plan ℕ) (h : Front q (block l B (block m A (operator c o p)))) → At o l m c h.front p q)
         → (w : Window q (operator c o p)) → Seen s w last second third → Answer test
     two_wanted t one two (no_block h) (a, e) = not_ready (none_there o refl (start c) last second third (omega arith)) h
@@ -88,7 +87,7 @@ module _ (s : ℕ) (q : Plan ℕ) (last second third c : ℕ) (p : Plan ℕ) whe
         is_ready (two-there o refl (start c) last second third (λ z. omega arith) t (λ z. omega arith)) a (omega arith) (omega arith) (two l B m A h)
 
     -- the operators c and d are ready behind one block, whatever stands before it
-    one_wanted : takes o ≢ 2 → ((l : ℕ) (B : Plan ℕ) (m : ℕ) (A : Plan ℕ) → after_two l B m A (operator c o p) ≡ none)
+    one_wanted : takes o ≢ 2 → ((l : ℕ) (B : Plan ℕ) (m : ℕ) (A : Plan ℕ) → after_two l B m A (operator c o p) ≡ None)
         → ((l m : ℕ) (A : Plan ℕ) (h : Front q (block m A (operator c o p))) → At o l m c h.front p q)
         → (w : Window q (operator c o p)) → Seen s w last second third → Answer test
     unfolding first_block past_block past

@@ -2,7 +2,6 @@
 -- answers for one sequence (`Scanned`), a hunt for a plan (`Finds`). What they answer is what document 01's order chooses: `outer` of a
 -- sequence, `next` of a plan. Last come the tests that the code makes at a port.
 use Rattle.std.specs.Prelude.{ℕ, ◌≤◌, ◌≡◌, List, [], ◌∷◌, ◌++◌, Option, None, Some}
-use Rattle.std.specs.Prelude.{None as none, Some as some}
 use Rattle.rules.specs.Frames.{Frame, top, within, plug, Ahead, Rule}
 use Rattle.plan.specs.Plan.{Plan, labels}
 use Rattle.plan.specs.declared.Operator.{Operator}
@@ -46,14 +45,14 @@ pub record Scannable (text : List ℕ) (h : Held) (s : ℕ) : Type 0 where
 
 -- of one sequence: no operator of it is ready; or the leftmost ready one is at the spot
 abbrev pub Scanned : Option Spot → (s : ℕ) → (q : Plan ℕ) → Type 0
-Scanned None s q = leftmost q ≡ none
-Scanned (Some spot) s q = (q' : Plan ℕ) × Stands spot s q q' × (leftmost q ≡ some q')
+Scanned None s q = leftmost q ≡ None
+Scanned (Some spot) s q = (q' : Plan ℕ) × Stands spot s q q' × (leftmost q ≡ Some q')
 
 -- of a plan: it is finished; or its next rewrite is the one at the spot, in one of its sequences
 abbrev pub Finds : Option Spot → (n : ℕ) → (t : Plan ℕ) → Type 0
-Finds None n t = next t ≡ none
+Finds None n t = next t ≡ None
 Finds (Some spot) n t =
-    (f : Frame ℕ) × (q : Plan ℕ) × (q' : Plan ℕ) × (t ≡ plug f q) × Stands spot (cell_of n f) q q' × (next t ≡ some (plug f q'))
+    (f : Frame ℕ) × (q : Plan ℕ) × (q' : Plan ℕ) × (t ≡ plug f q) × Stands spot (cell_of n f) q q' × (next t ≡ Some (plug f q'))
 
 -- The sequence inside the cell `from` is the first that may have a ready operator: the plan's next rewrite is in
 -- that sequence, or inside it, or behind it.
