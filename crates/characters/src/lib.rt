@@ -84,5 +84,10 @@ const CLOSE_BRACE: u32 = 0x7D;
 pub fn may_hold(value: u32) -> bool
     ensures { result ≡ may_hold value }
 {
-    !matches!(value, OPEN_BRACE | CLOSE_BRACE | 0..=0x1F | 0x7F..=0x9F | 0xFFFD)
+    match value {
+        OPEN_BRACE | CLOSE_BRACE => false,
+        0x20..=0x7E => true,
+        0..=0x9F | 0xFFFD => false,
+        _ => true,
+    }
 }
