@@ -39,11 +39,11 @@ impl Placed {
     }
 }
 
-// The walk over an accepted text, piece by piece: the text, and where the walk stands in it.
+// The walk over an accepted text, piece by piece: the text, and where the walk stands in it. A walk may begin wherever the text shows pieces.
 #[derive(Clone, Copy)]
 pub struct Walk<'a> {
-    text: &'a [u8],
-    at: usize,
+    pub text: &'a [u8],
+    pub at: usize,
 }
 
 // Where the first `}` stands.

@@ -27,7 +27,7 @@ with_numbers s w = record s { numbers = w }
 abbrev pub Built : (text : List ℕ) → (n : ℕ) → Model → (root : ℕ) → (others : List ℕ) → Around → Plan ℕ → Type 0
 Built text n s root others out here = Building text n s.numbers root others s.tail s.opened s.free out here
 
--- a step can be made: there is room, and what is kept beside the numbers is within it
+-- a step can be made: what is kept beside the numbers is within them
 pub record Buildable (b : Held) : Type 0 where
   pub tail : b.tail.0 ≤ start b.outer.0
   pub opened : b.opened.0 ≤ b.outer.0

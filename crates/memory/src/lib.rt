@@ -90,9 +90,9 @@ pub fn clear(memory: &mut [u32])
     memory.fill(0);
 }
 
-// A plan in the memory: the numbers lent, four for each cell; the cell that is not lent, whose inside is the outermost sequence; the first
-// port of that sequence, which is kept beside the numbers; and the first free cell. Where a sequence is built, `tail` is its last port so
-// far, and `opened` its innermost open block.
+// A plan in the memory: the numbers lent, four for each cell, and as they were past the last; the cell that is not lent, whose inside is the
+// outermost sequence; the first port of that sequence, which is kept beside the numbers; and the first free cell. Where a sequence is built,
+// `tail` is its last port so far, and `opened` its innermost open block.
 #[derive(Drop)]
 pub struct Held<'a> {
     pub numbers: &'a mut [u32],
