@@ -3,10 +3,11 @@ use Prim.Native.Nat.{ℕ, ◌+◌, ◌*◌, ◌-◌, ◌≤◌, ◌<◌}
 use mathlib.Core.Path.{◌≡◌, refl, ap, ap₂, sym, subst, ◌∙◌}
 use mathlib.Core.List.{List, [], ◌∷◌}
 use native.Mathlib.Omega.{arith}
-use Rattle.std.specs.Prelude.{Some, None, slice_index, slice_range}
+use Rattle.std.proofs.lemmas.List.{get_or-drop}
+use Rattle.std.specs.Prelude.{Some, None, slice_index}
 use borrow.Author.Tests.{le-leb, lt-leb}
-use lib.ListN.{length, take, drop, length-drop}
-use lib.Seq.{drop-drop, length-take-le, take-length}
+use lib.ListN.{length, take, drop, get_or, length-drop}
+use lib.Seq.{drop-drop, length-take-le}
 use Rattle.kinds.proofs.Tests.{never}
 use Rattle.stored.specs.Counted.{AtFront, CUT, FRONT, counted, number, so_many, then_read}
 use Rattle.stored.specs.Places.{number_at, number_told, counted_at, counted_told}
@@ -21,27 +22,24 @@ pub record RunFound (bytes : List ℕ) (at : ℕ) (s : Span) : Type 0 where
   pub front : counted (drop at bytes) ≡ FRONT (part bytes s) (drop (s.at + s.len) bytes)
 
 module _ (bytes : List ℕ) (at : ℕ) where
-  -- all bytes from a place on
-  pub slice_rest : slice_range bytes at (length bytes) ≡ drop at bytes
-  slice_rest = ap (λ k. take k (drop at bytes)) (sym (length-drop at bytes)) ∙ take-length (drop at bytes)
-
   pub number_at-cut : length bytes < at + 4 → None ≡ number_at bytes at
   unfolding number_at
   number_at-cut h = ap number_told (sym (number_cut bytes at h))
 
-  -- of the bytes from there on, the first four
-  pub number_at-whole : {front : List ℕ} → 4 ≤ length (drop at bytes) → front ≡ take 4 (drop at bytes) → (n : ℕ)
-      → n ≡ slice_index front 0 + slice_index front 1 * 256 + slice_index front 2 * 65536 + slice_index front 3 * 16777216 → Some n ≡ number_at bytes at
+  -- the four bytes from there on
+  pub number_at-whole : at + 4 ≤ length bytes → (n : ℕ)
+      → n ≡ slice_index bytes at + slice_index bytes (at + 1) * 256 + slice_index bytes (at + 2) * 65536 + slice_index bytes (at + 3) * 16777216 → Some n ≡ number_at bytes at
   unfolding number_at number
-  number_at-whole {front} enough first n e = go (drop at bytes) enough first
+  number_at-whole within n e = go (drop at bytes) (omega (arith, length-drop at bytes)) (λ i. get_or-drop at bytes i 0)
     where
-      go : (bs : List ℕ) → 4 ≤ length bs → front ≡ take 4 bs → Some n ≡ number_told (number bs)
-      go [] h f = absurd (omega arith)
-      go (a ∷ []) h f = absurd (omega arith)
-      go (a ∷ b ∷ []) h f = absurd (omega arith)
-      go (a ∷ b ∷ c ∷ []) h f = absurd (omega arith)
-      go (a ∷ b ∷ c ∷ d ∷ bs) h f =
-          ap Some (e ∙ ap (λ l. slice_index l 0 + slice_index l 1 * 256 + slice_index l 2 * 65536 + slice_index l 3 * 16777216) f ∙ omega arith)
+      go : (bs : List ℕ) → 4 ≤ length bs → ((i : ℕ) → get_or bs i 0 ≡ get_or bytes (at + i) 0) → Some n ≡ number_told (number bs)
+      go [] h same = absurd (omega arith)
+      go (a ∷ []) h same = absurd (omega arith)
+      go (a ∷ b ∷ []) h same = absurd (omega arith)
+      go (a ∷ b ∷ c ∷ []) h same = absurd (omega arith)
+      go (a ∷ b ∷ c ∷ d ∷ bs) h same =
+          let first : a ≡ get_or bytes at 0 = same 0 ∙ ap (λ i. get_or bytes i 0) (omega arith) in
+          ap Some (omega (arith, e, first, same 1, same 2, same 3))
 
   -- a number that is found stands within the bytes, and the rest behind it
   pub number_found : {n : ℕ} → number_at bytes at ≡ Some n → (at + 4 ≤ length bytes) × (number (drop at bytes) ≡ FRONT n (drop (at + 4) bytes))

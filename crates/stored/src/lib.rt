@@ -43,8 +43,13 @@ pub fn part(bytes: &[u8], span: Span) -> &[u8]
 pub fn number_at(bytes: &[u8], at: usize) -> Option<u32>
     ensures { result ≡ number_at bytes.now at }
 {
-    let number = bytes.get(at..)?.first_chunk()?;
-    Some(u32::from_le_bytes(*number))
+    // The last place where a number fits is the same for every place asked of, so a walk over many entries finds it once.
+    let last = bytes.len().checked_sub(NUMBER)?;
+    if last < at {
+        return None;
+    }
+    let number = [bytes[at], bytes[at + 1], bytes[at + 2], bytes[at + 3]];
+    Some(u32::from_le_bytes(number))
 }
 
 // The bytes at a place, behind their count, or that they are cut.
