@@ -4,7 +4,7 @@ use mathlib.Core.Path.{◌≡◌, refl, ap, ap₂, sym, subst, ◌∙◌}
 use mathlib.Core.Logic.{inl, inr}
 use mathlib.Core.Bool.{Bool, true, false, ◌&&◌, false≢true}
 use Rattle.std.specs.Prelude.{None, Ok, Err}
-use mathlib.Core.List.{List, ◌∷◌, reverse}
+use mathlib.Core.List.{List, [], ◌∷◌, reverse}
 use native.Mathlib.Omega.{arith}
 use borrow.Author.Tests.{leb-true}
 use lib.Dec.{leb, ltb}
@@ -13,12 +13,14 @@ use Rattle.kinds.specs.Limits.{standard}
 use Rattle.kinds.specs.Written.{put_at}
 use Rattle.stored.specs.Counted.{largest}
 use Rattle.roll_rules.specs.Answers.{Added, Judged, add_to, edition_1, new_bytes, new_entry, not_added, sums}
-use Rattle.roll_format.specs.Format.{Entry, entry_bytes, longest, parts_of, says}
+use Rattle.roll_format.specs.Format.{Entry, entry_bytes, longest, parts_in, parts_of, says}
 use Rattle.roll_format.specs.EntriesStand.{Storable}
 use Rattle.roll_rules.specs.EntriesBefore.{one_entry_more}
 use Rattle.roll_rules.specs.Rules.{digits, fault, is_job, job_limit}
 use Rattle.roll_format.specs.declared.EntryKind.{EntryKind}
 use Rattle.roll_format.specs.declared.EntryKind.TheVariants.{Filed, Done}
+use Rattle.roll_format.specs.declared.NewEntry.{NewEntry}
+use Rattle.roll_format.specs.declared.NewEntry.TheVariants.{Filed as NewFiled, Done as NewDone}
 use Rattle.roll_rules.specs.declared.Counts.{Counts}
 use Rattle.roll_rules.specs.declared.RollRefusal.{RollRefusal}
 use Rattle.roll_rules.specs.declared.RollRefusal.TheVariants.{NoRoom}
@@ -60,6 +62,11 @@ short_entry Done job text earlier place e =
     let (j, may) = done_fine standard earlier place job e in
     let few = job_few job j in
     record { storable = (omega arith, tt); few = omega arith; short = omega (arith, done_long job text) }
+
+pub short_new : (e : NewEntry) (earlier : List Entry) (place : ℕ) → fault standard earlier (record { place = place; parts = parts_in e }) ≡ None
+    → ShortEntry (parts_in e)
+short_new (NewFiled job text) earlier place e = short_entry Filed job.now text.now earlier place e
+short_new (NewDone job) earlier place e = short_entry Done job.now [] earlier place e
 
 module _ (buffer : List ℕ) (j : Judged) (parts : List (List ℕ)) where
   refused : {q : RollRefusal} → JudgedWeighed j parts (length buffer) (Err q) → EnteredAs (add_to edition_1 buffer j parts) (Err q) buffer

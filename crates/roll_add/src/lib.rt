@@ -4,46 +4,35 @@
 
 ghost use Rattle.std.specs.Prelude.{◌≡◌, ◌+◌, ◌≤◌, length};
 ghost use Rattle.roll_rules.specs.Answers.{add, close_job, edition_1, file, in_use};
-ghost use Rattle.roll_format.specs.Format.{longest, parts_of};
+ghost use Rattle.roll_format.specs.Format.{longest, parts_in};
 ghost use Rattle.roll_put.specs.Putting.{opening};
 ghost use Rattle.roll_add.specs.Entering.{TallyCounted, EnteredAs, JudgedWeighed, RollWeighed};
 ghost use Rattle.roll_add.specs.Calls.{Adds};
 
-use roll_format::{EntryKind, LONGEST};
+use roll_format::{LONGEST, NewEntry};
 use roll_put::{entry_size, put_entry};
 use roll_read::judge_roll;
 use roll_rules::{Counts, RollRefusal, Sums, Tally};
 use roll_weigh::weigh;
 
 // What the roll comes to, and what an entry that may be added behind it counts as; or what is wrong with the roll, and then with the entry.
-fn weigh_roll(
-    roll: &[u8],
-    kind: EntryKind,
-    job: &[u8],
-    text: &[u8],
-) -> Result<(Sums, Counts), RollRefusal>
-    ensures { RollWeighed roll.now (parts_of kind job.now text.now) result }
+fn weigh_roll(roll: &[u8], added: NewEntry) -> Result<(Sums, Counts), RollRefusal>
+    ensures { RollWeighed roll.now (parts_in added.entry) result }
 {
     let sums = judge_roll(roll)?;
-    let counts = weigh(roll, sums.end as usize, kind, job, text)?;
+    let counts = weigh(roll, sums.end as usize, added)?;
     Ok((sums, counts))
 }
 
 // Only the bytes in use of a buffer are a roll. A use longer than the buffer counts as all of it.
-fn weigh_used(
-    buffer: &[u8],
-    used: usize,
-    kind: EntryKind,
-    job: &[u8],
-    text: &[u8],
-) -> Result<(Sums, Counts), RollRefusal>
-    ensures { JudgedWeighed (in_use edition_1 buffer.now used) (parts_of kind job.now text.now) (length buffer.now) result }
+fn weigh_used(buffer: &[u8], used: usize, added: NewEntry) -> Result<(Sums, Counts), RollRefusal>
+    ensures { JudgedWeighed (in_use edition_1 buffer.now used) (parts_in added.entry) (length buffer.now) result }
 {
     if LONGEST < buffer.len() {
         return Err(RollRefusal::TooLong);
     }
     let end = used.min(buffer.len());
-    weigh_roll(&buffer[..end], kind, job, text)
+    weigh_roll(&buffer[..end], added)
 }
 
 // Where a roll ends with so many bytes more. A roll that had no first byte gets that byte too.
@@ -61,22 +50,16 @@ pub struct Entered {
     pub counts: Counts,
 }
 
-// Adds an entry of either kind. A DONE has no text, and what is given for one is not looked at.
-fn add_entry(
-    buffer: &mut [u8],
-    used: usize,
-    kind: EntryKind,
-    job: &[u8],
-    text: &[u8],
-) -> Result<Entered, RollRefusal>
-    ensures { EnteredAs (add edition_1 buffer.old used (parts_of kind job.now text.now)) result buffer.new }
+// Adds an entry of either kind.
+fn add_entry(buffer: &mut [u8], used: usize, added: NewEntry) -> Result<Entered, RollRefusal>
+    ensures { EnteredAs (add edition_1 buffer.old used (parts_in added.entry)) result buffer.new }
 {
-    let (sums, counts) = weigh_used(buffer, used, kind, job, text)?;
-    let last = new_end(sums.end, entry_size(kind, job, text));
+    let (sums, counts) = weigh_used(buffer, used, added)?;
+    let last = new_end(sums.end, entry_size(added));
     if buffer.len() < last {
         return Err(RollRefusal::NoRoom(last.min(LONGEST) as u32));
     }
-    put_entry(buffer, sums.end as usize, kind, job, text);
+    put_entry(buffer, sums.end as usize, added);
     Ok(Entered {
         sums: sums.with_entry(counts, last as u32),
         counts,
@@ -92,13 +75,13 @@ pub fn file_entry(
 ) -> Result<Entered, RollRefusal>
     ensures { EnteredAs (file edition_1 buffer.old used job.now text.now) result buffer.new }
 {
-    add_entry(buffer, used, EntryKind::Filed, job, text)
+    add_entry(buffer, used, NewEntry::Filed { job, text })
 }
 
 pub fn done_entry(buffer: &mut [u8], used: usize, job: &[u8]) -> Result<Entered, RollRefusal>
     ensures { EnteredAs (close_job edition_1 buffer.old used job.now) result buffer.new }
 {
-    add_entry(buffer, used, EntryKind::Done, job, b"")
+    add_entry(buffer, used, NewEntry::Done { job })
 }
 
 // Counts in the tally lent what was added, and answers what the roll then comes to. A refusal counts nothing.

@@ -5,6 +5,8 @@ use Rattle.std.specs.Prelude.{Option, None, Some}
 use Rattle.stored.specs.Counted.{AtFront, CUT, FRONT, counted, four_bytes, largest, number, then_read, with_count}
 use Rattle.roll_format.specs.declared.EntryKind.{EntryKind}
 use Rattle.roll_format.specs.declared.EntryKind.TheVariants.{Filed, Done}
+use Rattle.roll_format.specs.declared.NewEntry.{NewEntry}
+use Rattle.roll_format.specs.declared.NewEntry.TheVariants.{Filed as NewFiled, Done as NewDone}
 
 -- no roll and no buffer is longer
 abbrev pub longest : ℕ
@@ -63,6 +65,15 @@ says (a ∷ b ∷ c ∷ more) = NEITHER
 abbrev pub parts_of : EntryKind → (job text : List ℕ) → List (List ℕ)
 parts_of Filed job text = job ∷ text ∷ []
 parts_of Done job text = job ∷ []
+
+-- the sections of an entry to go behind those of a roll
+abbrev pub parts_in : NewEntry → List (List ℕ)
+parts_in (NewFiled job text) = parts_of Filed job.now text.now
+parts_in (NewDone job) = parts_of Done job.now []
+
+abbrev pub job_in : NewEntry → List ℕ
+job_in (NewFiled job text) = job.now
+job_in (NewDone job) = job.now
 
 -- an entry, written
 unfoldable pub sections_bytes : List (List ℕ) → List ℕ

@@ -2,6 +2,9 @@
 // entry is right.
 #![tactic(auto)]
 
+ghost use Rattle.std.specs.Prelude.{◌≡◌};
+ghost use Rattle.roll_format.specs.Format.{job_in};
+
 use stored::LARGEST;
 
 // No roll and no buffer is longer.
@@ -15,4 +18,22 @@ pub const FIRST: u8 = 1;
 pub enum EntryKind {
     Filed,
     Done,
+}
+
+// An entry to go behind those of a roll: a FILED has a job number and a text, a DONE has a job number alone.
+#[derive(Clone, Copy, PartialEq, Eq)]
+pub enum NewEntry<'a> {
+    Filed { job: &'a [u8], text: &'a [u8] },
+    Done { job: &'a [u8] },
+}
+
+impl<'a> NewEntry<'a> {
+    // Its job number, which an entry of either kind has.
+    pub fn job(self) -> &'a [u8]
+        ensures { result.now ≡ job_in self.entry }
+    {
+        match self {
+            Self::Filed { job, .. } | Self::Done { job } => job,
+        }
+    }
 }

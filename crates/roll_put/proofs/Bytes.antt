@@ -13,9 +13,9 @@ use Rattle.kinds.specs.Written.{put_at}
 use Rattle.kinds.proofs.Putting.{put_long, put_nothing, put_on}
 use Rattle.stored.specs.Counted.{four_bytes, with_count}
 use Rattle.roll_rules.specs.Answers.{edition_1, new_bytes}
-use Rattle.roll_format.specs.Format.{entry_bytes, parts_of, sections_bytes}
-use Rattle.roll_format.specs.declared.EntryKind.{EntryKind}
+use Rattle.roll_format.specs.Format.{entry_bytes, parts_in, parts_of, sections_bytes}
 use Rattle.roll_format.specs.declared.EntryKind.TheVariants.{Filed, Done}
+use Rattle.roll_format.specs.declared.NewEntry.{NewEntry}
 use Rattle.roll_put.specs.Putting.{RoomAt, RoomFor, opening}
 
 pub new_opening : (end : ℕ) (parts : List (List ℕ)) → new_bytes edition_1 end parts ≡ opening end ++ entry_bytes parts
@@ -66,9 +66,9 @@ unfolding entry_bytes sections_bytes
 done_long job text =
     omega (arith, length-append (four_bytes 1) (with_count job ++ []), four_long 1, length-append (with_count job) [], count_long job)
 
--- by what the kind was found to be
-pub kind_long : {k x : EntryKind} (job text : List ℕ) → k ≡ x → length (entry_bytes (parts_of x job text)) ≡ length (entry_bytes (parts_of k job text))
-kind_long job text e = ap (λ (y : EntryKind). length (entry_bytes (parts_of y job text))) (sym e)
+-- by what the entry was found to be
+pub entry_long : {e x : NewEntry} → e ≡ x → length (entry_bytes (parts_in x)) ≡ length (entry_bytes (parts_in e))
+entry_long is = ap (λ (y : NewEntry). length (entry_bytes (parts_in y))) (sym is)
 
 pub new_long : (end : ℕ) (parts : List (List ℕ)) → length (new_bytes edition_1 end parts) ≡ length (opening end) + length (entry_bytes parts)
 new_long end parts = ap length (new_opening end parts) ∙ length-append (opening end) (entry_bytes parts)
@@ -158,10 +158,10 @@ module _ (l : List ℕ) (end : ℕ) (parts : List (List ℕ)) (fits : RoomFor l 
     pub new_put : {m' : List ℕ} → m' ≡ put_at m at (entry_bytes parts) → m' ≡ put_at l end (new_bytes edition_1 end parts)
     new_put two = then_put l end (opening end) (entry_bytes parts) room_long one there two ∙ ap (put_at l end) (sym (new_opening end parts))
 
--- by what the kind was found to be
-pub room_by : {l : List ℕ} {end : ℕ} (job text : List ℕ) {k x : EntryKind} → k ≡ x → RoomFor l end (parts_of k job text) → RoomFor l end (parts_of x job text)
-room_by {l} {end} job text e fits = subst (λ (y : EntryKind). RoomFor l end (parts_of y job text)) e fits
+-- by what the entry was found to be
+pub room_by : {l : List ℕ} {end : ℕ} {e x : NewEntry} → e ≡ x → RoomFor l end (parts_in e) → RoomFor l end (parts_in x)
+room_by {l} {end} is fits = subst (λ (y : NewEntry). RoomFor l end (parts_in y)) is fits
 
-pub put_by : (l : List ℕ) (end : ℕ) (job text : List ℕ) {k x : EntryKind} → k ≡ x → {m : List ℕ} → m ≡ put_at l end (new_bytes edition_1 end (parts_of x job text))
-    → m ≡ put_at l end (new_bytes edition_1 end (parts_of k job text))
-put_by l end job text e is = is ∙ ap (λ (y : EntryKind). put_at l end (new_bytes edition_1 end (parts_of y job text))) (sym e)
+pub put_by : (l : List ℕ) (end : ℕ) {e x : NewEntry} → e ≡ x → {m : List ℕ} → m ≡ put_at l end (new_bytes edition_1 end (parts_in x))
+    → m ≡ put_at l end (new_bytes edition_1 end (parts_in e))
+put_by l end is made = made ∙ ap (λ (y : NewEntry). put_at l end (new_bytes edition_1 end (parts_in y))) (sym is)

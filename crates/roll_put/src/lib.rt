@@ -4,11 +4,11 @@
 ghost use Rattle.std.specs.Prelude.{◌≡◌, [], ◌+◌, ◌≤◌, ◌<◌, length};
 ghost use Rattle.kinds.specs.Written.{put_at};
 ghost use Rattle.roll_rules.specs.Answers.{edition_1, new_bytes};
-ghost use Rattle.roll_format.specs.Format.{entry_bytes, longest, parts_of};
+ghost use Rattle.roll_format.specs.Format.{entry_bytes, longest, parts_in, parts_of};
 ghost use Rattle.roll_format.specs.declared.EntryKind.TheVariants.{Filed, Done};
 ghost use Rattle.roll_put.specs.Putting.{RoomAt, RoomFor, opening};
 
-use roll_format::{EntryKind, FIRST};
+use roll_format::{FIRST, NewEntry};
 use stored::{NUMBER, put_counted, put_number};
 
 // Puts the first byte of a roll that has no bytes, and answers where the entry goes.
@@ -25,13 +25,13 @@ fn begin(buffer: &mut [u8], end: usize) -> usize
 }
 
 // The bytes of an entry: its number of sections, and each section behind its count.
-pub fn entry_size(kind: EntryKind, job: &[u8], text: &[u8]) -> usize
-    requires { length (entry_bytes (parts_of kind job.now text.now)) ≤ longest }
-    ensures { result ≡ length (entry_bytes (parts_of kind job.now text.now)) }
+pub fn entry_size(added: NewEntry) -> usize
+    requires { length (entry_bytes (parts_in added)) ≤ longest }
+    ensures { result ≡ length (entry_bytes (parts_in added.entry)) }
 {
-    match kind {
-        EntryKind::Filed => NUMBER + NUMBER + job.len() + NUMBER + text.len(),
-        EntryKind::Done => NUMBER + NUMBER + job.len(),
+    match added {
+        NewEntry::Filed { job, text } => NUMBER + NUMBER + job.len() + NUMBER + text.len(),
+        NewEntry::Done { job } => NUMBER + NUMBER + job.len(),
     }
 }
 
@@ -55,13 +55,13 @@ fn put_done(buffer: &mut [u8], at: usize, job: &[u8])
 }
 
 // Writes an entry at the end.
-pub fn put_entry(buffer: &mut [u8], end: usize, kind: EntryKind, job: &[u8], text: &[u8])
-    requires { RoomFor buffer.old end (parts_of kind job.now text.now) }
-    ensures { buffer.new ≡ put_at buffer.old end (new_bytes edition_1 end (parts_of kind job.now text.now)) }
+pub fn put_entry(buffer: &mut [u8], end: usize, added: NewEntry)
+    requires { RoomFor buffer.old end (parts_in added) }
+    ensures { buffer.new ≡ put_at buffer.old end (new_bytes edition_1 end (parts_in added.entry)) }
 {
     let at = begin(buffer, end);
-    match kind {
-        EntryKind::Filed => put_filed(buffer, at, job, text),
-        EntryKind::Done => put_done(buffer, at, job),
+    match added {
+        NewEntry::Filed { job, text } => put_filed(buffer, at, job, text),
+        NewEntry::Done { job } => put_done(buffer, at, job),
     }
 }

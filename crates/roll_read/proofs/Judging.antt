@@ -57,13 +57,13 @@ module _ (bytes : List ℕ) (at : ℕ) {x : Option EntryAt} (is : x ≡ entry_at
         sym (ap (λ f. entry_judged earlier at f bytes) o.whole
         ∙ ap (λ w. weight_judged at (weight_told w (counts_filed earlier (says o.parts)) (counts_done (says o.parts))) (length bytes - length o.rest)) wrong)
 
-    module _ {kind : EntryKind} {job text : Span} {next : ℕ} (e : x ≡ Some (Known kind job text next)) {j t : List ℕ} (one : j ≡ part bytes job) (two : t ≡ part bytes text)
-        {w : Weighed} (weighs : w ≡ weighed_at earlier at (parts_of kind j t)) where
+    module _ {kind : EntryKind} {job text : Span} {next : ℕ} (e : x ≡ Some (Known kind job text next)) {ps : List (List ℕ)} (its : ps ≡ parts_of kind (part bytes job) (part bytes text))
+        {w : Weighed} (weighs : w ≡ weighed_at earlier at ps) where
       by_weight : weight_judged at w next ≡ entry_judged earlier at (entry (drop at bytes)) bytes
       unfolding entry_judged
       by_weight =
           let k = known e in
-          ap (λ (v : Weighed). weight_judged at v next) (weighs ∙ ap₂ (λ a b. weighed_at earlier at (parts_of kind a b)) one two)
+          ap (λ (v : Weighed). weight_judged at v next) (weighs ∙ ap (weighed_at earlier at) its)
           ∙ ap (weight_judged at (weighed_at earlier at (parts_of kind (part bytes job) (part bytes text)))) k.there
           ∙ sym (ap (λ f. entry_judged earlier at f bytes) k.whole)
 

@@ -4,23 +4,40 @@
 
 ghost use Rattle.std.specs.Prelude.{◌≡◌, Some, List, ◌≤◌, length, drop};
 ghost use Rattle.kinds.specs.Limits.{standard};
-ghost use Rattle.roll_format.specs.Format.{Entry, entry, listing, longest};
+ghost use Rattle.stored.specs.Spans.{SpanWithin, part};
+ghost use Rattle.roll_format.specs.Format.{Entry, entry, listing, longest, parts_in, parts_of};
 ghost use Rattle.roll_rules.specs.EntriesBefore.{Behind, EntriesBefore, HasEntriesBefore};
 ghost use Rattle.roll_rules.specs.Answers.{by_rules, edition_1, judged, one_entry, places};
 ghost use Rattle.roll_read.specs.Calls.{Lists};
 ghost use Rattle.roll_read.specs.Judging.{Fillable, entry_judged, judged_as};
 
 use roll_entries::{EntryAt, entry_at, next_of};
-use roll_format::{FIRST, LONGEST};
+use roll_format::{EntryKind, FIRST, LONGEST, NewEntry};
 use roll_rules::{Counts, EntryRefusal, FoundEntry, RollRefusal, Sums};
 use roll_weigh::weigh;
-use stored::part;
+use stored::{Span, part};
 
 // An entry that obeys the rules: where the next one would stand, and what it adds to the tally.
 #[derive(Clone, Copy, PartialEq, Eq)]
 pub struct JudgedEntry {
     pub next: usize,
     pub counts: Counts,
+}
+
+// An entry of the roll, by its kind and where its sections stand. A DONE has no text, so no text is read for one.
+fn entry_of(roll: &[u8], kind: EntryKind, job: Span, text: Span) -> NewEntry<'_>
+    requires { SpanWithin roll.now job × SpanWithin roll.now text }
+    ensures { parts_in result ≡ parts_of kind (part roll.now job) (part roll.now text) }
+{
+    match kind {
+        EntryKind::Filed => NewEntry::Filed {
+            job: part(roll, job),
+            text: part(roll, text),
+        },
+        EntryKind::Done => NewEntry::Done {
+            job: part(roll, job),
+        },
+    }
 }
 
 // The entry at a place, behind entries that obey the rules: none where it is torn. Whatever is wrong with it, the roll is refused by its
@@ -39,7 +56,7 @@ fn judge_entry(roll: &[u8], at: usize) -> Result<Option<JudgedEntry>, RollRefusa
             job,
             text,
             next,
-        } => match weigh(roll, at, kind, part(roll, job), part(roll, text)) {
+        } => match weigh(roll, at, entry_of(roll, kind, job, text)) {
             Err(_) => Err(RollRefusal::BadRoll(at as u32)),
             Ok(counts) => Ok(Some(JudgedEntry { next, counts })),
         },

@@ -3,7 +3,7 @@ use Prim.Native.Nat.{ℕ, ◌≤◌}
 use mathlib.Core.Path.{◌≡◌, refl, ap, sym, subst, ◌∙◌}
 use mathlib.Core.Bool.{Bool, true, false, cond}
 use Rattle.std.specs.Prelude.{None, Some}
-use mathlib.Core.List.{List, reverse}
+use mathlib.Core.List.{List, [], ◌∷◌, reverse}
 use native.Mathlib.Omega.{arith}
 use Rattle.std.specs.Prelude.{Err}
 use lib.ListN.{length}
@@ -13,11 +13,11 @@ use Rattle.plan.specs.Pieces.{Shows, pieces}
 use Rattle.plan.proofs.Acceptable.{AcceptableText}
 use Rattle.rules.specs.Rewriting.{finished}
 use Rattle.finished.specs.ShowsPlan.{ShowsPlan}
-use Rattle.roll_format.specs.Format.{Entry, longest, parts_of, says}
+use Rattle.roll_format.specs.Format.{Entry, job_in, longest, parts_in, says}
 use Rattle.roll_rules.specs.EntriesBefore.{EntriesBefore, HasEntriesBefore}
 use Rattle.roll_rules.specs.Rules.{JobStanding, UNFILED, FILED_AT, DONE_AT, after_done, counts_done, counts_filed, fault, fault_of, is_finished, is_job, is_new, is_printed, standing, unfinished}
-use Rattle.roll_format.specs.declared.EntryKind.{EntryKind}
-use Rattle.roll_format.specs.declared.EntryKind.TheVariants.{Filed, Done}
+use Rattle.roll_format.specs.declared.NewEntry.{NewEntry}
+use Rattle.roll_format.specs.declared.NewEntry.TheVariants.{Filed, Done}
 use Rattle.roll_rules.specs.declared.RollRefusal.TheVariants.{AlreadyDone, BadJob, BadText, Unfiled, Unfinished}
 use Rattle.roll_rules.proofs.Rules.{filed-right}
 use Rattle.roll_rules.proofs.Texts.{finished_by_plan, printed-text}
@@ -104,20 +104,31 @@ module _ {roll : List ℕ} (job : List ℕ) {at : ℕ} {text : List ℕ} where
 
 -- either kind
 
-module _ (earlier : List Entry) (place : ℕ) (job text : List ℕ) {t : Bool} (told : t ≡ is_job job) where
-  pub no_job : t ≡ false → (k : EntryKind) → Err BadJob ≡ weighed_at earlier place (parts_of k job text)
-  unfolding weighed_at fault fault_of says
-  no_job h Filed = sym (rw (sym told ∙ h) refl)
-  no_job h Done = sym (rw (sym told ∙ h) refl)
+no_job_in : (earlier : List Entry) (place : ℕ) (e : NewEntry) → is_job (job_in e) ≡ false → Err BadJob ≡ weighed_at earlier place (parts_in e)
+unfolding weighed_at fault fault_of says
+no_job_in earlier place (Filed job text) h = sym (rw h refl)
+no_job_in earlier place (Done job) h = sym (rw h refl)
 
-  pub weighs_filed : t ≡ true → {k : EntryKind} → k ≡ Filed → {r : Weighed} → r ≡ weighed_filed earlier job text → r ≡ weighed_at earlier place (parts_of k job text)
+module _ (earlier : List Entry) (place : ℕ) (e : NewEntry) {job : List ℕ} (its : job ≡ job_in e) {t : Bool} (told : t ≡ is_job job) where
+  so : {b : Bool} → t ≡ b → is_job (job_in e) ≡ b
+  so h = sym (ap is_job its) ∙ sym told ∙ h
+
+  pub no_job : t ≡ false → Err BadJob ≡ weighed_at earlier place (parts_in e)
+  no_job h = no_job_in earlier place e (so h)
+
+  -- what the entry was found to be
+  pub weighs_filed : t ≡ true → {j x : List ℕ} → job_in e ≡ j → parts_in e ≡ j ∷ x ∷ [] → {r : Weighed} → r ≡ weighed_filed earlier j x
+      → r ≡ weighed_at earlier place (parts_in e)
   unfolding weighed_at weighed_filed fault fault_of says counts_filed counts_done
-  weighs_filed h {k} e {r} is =
-      let same : weighed_filed earlier job text ≡ weighed_at earlier place (parts_of Filed job text) = sym (rw (sym told ∙ h) refl) in
-      is ∙ same ∙ ap (λ (x : EntryKind). weighed_at earlier place (parts_of x job text)) (sym e)
+  weighs_filed h {j} {x} its_job its_parts is =
+      let right : is_job j ≡ true = sym (ap is_job its_job) ∙ so h in
+      let same : weighed_filed earlier j x ≡ weighed_at earlier place (j ∷ x ∷ []) = sym (rw right refl) in
+      is ∙ same ∙ ap (weighed_at earlier place) (sym its_parts)
 
-  pub weighs_done : t ≡ true → {k : EntryKind} → k ≡ Done → {r : Weighed} → r ≡ weighed_done earlier job → r ≡ weighed_at earlier place (parts_of k job text)
+  pub weighs_done : t ≡ true → {j : List ℕ} → job_in e ≡ j → parts_in e ≡ j ∷ [] → {r : Weighed} → r ≡ weighed_done earlier j
+      → r ≡ weighed_at earlier place (parts_in e)
   unfolding weighed_at weighed_done fault fault_of says counts_filed counts_done
-  weighs_done h {k} e {r} is =
-      let same : weighed_done earlier job ≡ weighed_at earlier place (parts_of Done job text) = sym (rw (sym told ∙ h) refl) in
-      is ∙ same ∙ ap (λ (x : EntryKind). weighed_at earlier place (parts_of x job text)) (sym e)
+  weighs_done h {j} its_job its_parts is =
+      let right : is_job j ≡ true = sym (ap is_job its_job) ∙ so h in
+      let same : weighed_done earlier j ≡ weighed_at earlier place (j ∷ []) = sym (rw right refl) in
+      is ∙ same ∙ ap (weighed_at earlier place) (sym its_parts)

@@ -3,12 +3,12 @@
 #![tactic(auto)]
 
 ghost use Rattle.std.specs.Prelude.{◌≡◌, ℕ};
-ghost use Rattle.roll_format.specs.Format.{parts_of};
+ghost use Rattle.roll_format.specs.Format.{parts_in};
 ghost use Rattle.roll_rules.specs.EntriesBefore.{Behind, HasEntriesBefore};
 ghost use Rattle.roll_weigh.specs.Weighed.{weighed_at, weighed_done, weighed_filed};
 
 use finished::is_finished;
-use roll_format::EntryKind;
+use roll_format::NewEntry;
 use roll_rules::{Counts, RollRefusal};
 use roll_standing::{StandingAt, is_job, is_printed, look_back};
 use stored::part;
@@ -55,22 +55,16 @@ fn weigh_done(roll: &[u8], upto: usize, job: &[u8]) -> Result<Counts, RollRefusa
     }
 }
 
-// An entry of either kind, behind those before a place. A DONE has no text, and what is given for one is not looked at.
-pub fn weigh(
-    roll: &[u8],
-    upto: usize,
-    kind: EntryKind,
-    job: &[u8],
-    text: &[u8],
-) -> Result<Counts, RollRefusal>
+// An entry of either kind, added behind those before a place.
+pub fn weigh(roll: &[u8], upto: usize, added: NewEntry) -> Result<Counts, RollRefusal>
     requires { HasEntriesBefore roll.now upto }
-    ensures { Behind roll.now upto (λ earlier. ((place : ℕ) → result ≡ weighed_at earlier place (parts_of kind job.now text.now))) }
+    ensures { Behind roll.now upto (λ earlier. ((place : ℕ) → result ≡ weighed_at earlier place (parts_in added.entry))) }
 {
-    if !is_job(job) {
+    if !is_job(added.job()) {
         return Err(RollRefusal::BadJob);
     }
-    match kind {
-        EntryKind::Filed => weigh_filed(roll, upto, job, text),
-        EntryKind::Done => weigh_done(roll, upto, job),
+    match added {
+        NewEntry::Filed { job, text } => weigh_filed(roll, upto, job, text),
+        NewEntry::Done { job } => weigh_done(roll, upto, job),
     }
 }

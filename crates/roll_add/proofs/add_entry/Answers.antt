@@ -2,14 +2,14 @@
 use Rattle.std.proofs.Common.{arith, refl}
 use Rattle.roll_rules.specs.Answers.{add}
 use Rattle.roll_rules.proofs.Refusing.{refused}
-use Rattle.roll_add.proofs.Entering.{ShortEntry, entry-added, entry-fits, entry-no_room, entry-refused, short_entry}
-use Rattle.roll_format.specs.Format.{parts_of}
+use Rattle.roll_add.proofs.Entering.{ShortEntry, entry-added, entry-fits, entry-no_room, entry-refused, short_new}
+use Rattle.roll_format.specs.Format.{parts_in}
 use Rattle.roll_add.proofs.add_entry.Goals as goal
 use Rattle.roll_add.proofs.add_entry.Goals.{In_ok-sums}
 
 -- an entry that may be added is short
-short : (c : In_ok-sums) → ShortEntry (parts_of c.args.kind c.args.job.now c.args.text.now)
-short c = short_entry c.args.kind c.args.job.now c.args.text.now _ _ c.in_ok-sums.ensures.fine
+short : (c : In_ok-sums) → ShortEntry (parts_in c.args.added)
+short c = short_new c.args.added _ _ c.in_ok-sums.ensures.fine
 
 pub returns-in_err-sums : goal.returns-in_err-sums
 unfolding add

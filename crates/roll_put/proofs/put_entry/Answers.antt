@@ -6,23 +6,17 @@ pub begin-at-requires : goal.begin-at-requires
 begin-at-requires c = new_begins _ _ _ c.requires
 
 pub put_filed-requires : goal.put_filed-requires
-put_filed-requires c =
-    let a = c.args in
-    new_room _ _ _ (room_by a.job.now a.text.now c.in-Filed.is c.requires) c.begin-at.ensures.put c.begin-at.ensures.there
+put_filed-requires c = new_room _ _ _ (room_by c.in-Filed.is c.requires) c.begin-at.ensures.put c.begin-at.ensures.there
 
 pub put_done-requires : goal.put_done-requires
-put_done-requires c =
-    let a = c.args in
-    new_room _ _ _ (room_by a.job.now a.text.now c.in-Done.is c.requires) c.begin-at.ensures.put c.begin-at.ensures.there
+put_done-requires c = new_room _ _ _ (room_by c.in-Done.is c.requires) c.begin-at.ensures.put c.begin-at.ensures.there
 
 pub returns-in-Filed : goal.returns-in-Filed
 returns-in-Filed c =
-    let a = c.args in
-    put_by a.buffer.now a.end a.job.now a.text.now c.in-Filed.is
-    (new_put _ _ _ (room_by a.job.now a.text.now c.in-Filed.is c.requires) c.begin-at.ensures.put c.begin-at.ensures.there c.put_filed.ensures)
+    put_by c.args.buffer.now c.args.end c.in-Filed.is
+    (new_put _ _ _ (room_by c.in-Filed.is c.requires) c.begin-at.ensures.put c.begin-at.ensures.there c.put_filed.ensures)
 
 pub returns-in-Done : goal.returns-in-Done
 returns-in-Done c =
-    let a = c.args in
-    put_by a.buffer.now a.end a.job.now a.text.now c.in-Done.is
-    (new_put _ _ _ (room_by a.job.now a.text.now c.in-Done.is c.requires) c.begin-at.ensures.put c.begin-at.ensures.there c.put_done.ensures)
+    put_by c.args.buffer.now c.args.end c.in-Done.is
+    (new_put _ _ _ (room_by c.in-Done.is c.requires) c.begin-at.ensures.put c.begin-at.ensures.there c.put_done.ensures)

@@ -4,11 +4,8 @@ use Rattle.std.specs.Prelude.{Some}
 use Rattle.roll_read.proofs.Judging.{faulty_judged, fine_judged, known, other_judged, torn_judged}
 use Rattle.roll_read.proofs.judge_entry.Goals as goal
 
-pub part-requires : goal.part-requires
-part-requires c = (known _ _ c.entry_at.ensures (c.in-Some.is ∙ ap Some c.in-Known.is)).job_within
-
-pub part-requires-in-Known : goal.part-requires-in-Known
-part-requires-in-Known c = (known _ _ c.entry_at.ensures (c.in-Some.is ∙ ap Some c.in-Known.is)).text_within
+pub entry_of-requires : goal.entry_of-requires
+entry_of-requires c = let k = known _ _ c.entry_at.ensures (c.in-Some.is ∙ ap Some c.in-Known.is) in (k.job_within, k.text_within)
 
 pub returns-in_default : goal.returns-in_default
 returns-in_default c es b = torn_judged _ _ c.entry_at.ensures _ c.in_default.is
@@ -18,8 +15,8 @@ returns-in-Other c es b = other_judged _ _ c.entry_at.ensures _ (c.in-Some.is �
 
 pub returns-in-Err : goal.returns-in-Err
 returns-in-Err c es b =
-    faulty_judged _ _ c.entry_at.ensures _ (c.in-Some.is ∙ ap Some c.in-Known.is) c.part.ensures c.part-in-Known.ensures (c.weigh.ensures es b _) c.in-Err.is
+    faulty_judged _ _ c.entry_at.ensures _ (c.in-Some.is ∙ ap Some c.in-Known.is) c.entry_of.ensures (c.weigh.ensures es b _) c.in-Err.is
 
 pub returns-in-Ok : goal.returns-in-Ok
 returns-in-Ok c es b =
-    fine_judged _ _ c.entry_at.ensures _ (c.in-Some.is ∙ ap Some c.in-Known.is) c.part.ensures c.part-in-Known.ensures (c.weigh.ensures es b _) c.in-Ok.is
+    fine_judged _ _ c.entry_at.ensures _ (c.in-Some.is ∙ ap Some c.in-Known.is) c.entry_of.ensures (c.weigh.ensures es b _) c.in-Ok.is
