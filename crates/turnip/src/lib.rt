@@ -78,17 +78,14 @@ pub fn turnip_roll_entry(roll: &[u8], at: usize, answer: &mut [u32; 5])
 fn tally_in(tally: &[u32; 2]) -> Tally
     ensures { (result.filed ≡ get_or tally.now 0 0) × (result.done ≡ get_or tally.now 1 0) }
 {
-    Tally {
-        filed: tally[0],
-        done: tally[1],
-    }
+    let [filed, done] = *tally;
+    Tally { filed, done }
 }
 
 fn store_tally(counted: Tally, tally: &mut [u32; 2])
     ensures { tally.new ≡ tally_set tally.old counted.filed counted.done }
 {
-    tally[0] = counted.filed;
-    tally[1] = counted.done;
+    *tally = [counted.filed, counted.done];
 }
 
 pub fn turnip_roll_file(
