@@ -11,6 +11,9 @@ use lib.Seq.{drop-cons, drop-length}
 use Rattle.kinds.specs.Limits.{Limits, standard}
 use Rattle.std.specs.Prelude.{Some}
 use Rattle.plan.specs.Read.{acceptable}
+use Rattle.plan.specs.Reading.{read_text}
+use Rattle.plan.proofs.Acceptable.{acceptable_plan}
+use Rattle.plan.proofs.Accepting.{text_short}
 use Rattle.kinds.proofs.Tests.{and_true}
 use Rattle.stored.specs.Counted.{AtFront, CUT, FRONT}
 use Rattle.stored.specs.Places.{two_counted_at}
@@ -20,6 +23,7 @@ use Rattle.stored.proofs.Pairs.{two_counted_found}
 use Rattle.words_meaning.specs.Linking.{Word, listed, percent, stock_token}
 use Rattle.words_meaning.specs.Stock.{fits, is_name, word}
 use Rattle.words_meaning.proofs.Word.{word_found}
+use Rattle.words_shelf.specs.Words.{is_plan}
 use Rattle.words_check.specs.Checking.{FitThere, Fitting, fit_front, fitting, is_new_name, next_fitting}
 
 -- One word, checked by itself.
@@ -69,15 +73,16 @@ module _ (list : List ℕ) (older : List Word) (at : ℕ) where
 
 pub record FitWord (older : List Word) (w : Word) : Type 0 where
   pub new : listed (stock_token w) older ≡ false
-  pub reads : acceptable standard w.text ≡ true
+  pub reads : is_plan (read_text standard w.text) ≡ true
 
 -- a word that passes all the tests passes each
 pub fit_word : (older : List Word) (w : Word) → fits standard older w ≡ true → FitWord older w
-unfolding fits
+unfolding fits is_plan
 fit_word older w e =
     let more = (and_true (is_name standard w.name) (not (listed (stock_token w) older) && acceptable standard w.text) e).1 in
     let (new, read) = and_true (not (listed (stock_token w) older)) (acceptable standard w.text) more in
-    record { new = not-true (listed (stock_token w) older) new; reads = read }
+    let t = acceptable_plan standard w.text read in
+    record { new = not-true (listed (stock_token w) older) new; reads = ap is_plan (text_short standard w.text t.short ∙ t.reads) }
 
 -- Reading words that fit.
 

@@ -1,4 +1,4 @@
--- A text that reads, however many cells it has: a walk over it shows its plan.
+-- A text that reads, however many cells it has, reads as its plan.
 use Prim.Native.Nat.{ℕ}
 use mathlib.Core.Path.{◌≡◌, ap, sym, ◌∙◌}
 use mathlib.Core.List.{List}
@@ -6,18 +6,8 @@ use Rattle.kinds.specs.Limits.{standard, token_limit}
 use Rattle.plan.specs.Plan.{Plan}
 use Rattle.plan.specs.Reading.{PLAN, plan_in, plan_of, read_text}
 use Rattle.plan.proofs.Accepting.{reads_short}
-use Rattle.plan.proofs.Reached.{text-read}
-use Rattle.plan.proofs.Refusals.{plan_faultless}
-use Rattle.words_shelf.specs.Shelf.{Readable}
 
 module _ (text : List ℕ) {p : Plan ℕ} (is : read_text standard text ≡ PLAN p) where
-  pub reads_readable : Readable text
-  unfolding plan_of plan_in
-  reads_readable =
-      let (short, read) = reads_short standard text is in
-      let r = text-read (plan_faultless token_limit text read) in
-      record { short = short; shows = rw (ap plan_in r.reads) r.shows }
-
   pub reads_plan : read_text standard text ≡ PLAN (plan_of token_limit text)
   unfolding plan_of plan_in
   reads_plan = is ∙ ap PLAN (sym (ap plan_in (reads_short standard text is).1))

@@ -1,3 +1,4 @@
 pub mod Noting
+pub mod Reading
 pub mod Seeking
 pub mod StandsFor

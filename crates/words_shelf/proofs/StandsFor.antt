@@ -1,14 +1,12 @@
 -- What is found for a token, or for a piece, is what it stands for by the words below the rank. Then a walk that links a text, piece by
 -- piece: what was put so far and what is to come are together the linked plan's pieces.
 use Prim.Native.Nat.{ℕ, zero, suc, ◌<◌}
-use mathlib.Core.Path.{◌≡◌, refl, ap, sym, subst, ◌∙◌}
+use mathlib.Core.Path.{◌≡◌, refl, ap, sym, ◌∙◌}
 use mathlib.Core.Bool.{Bool, true, false, cond}
 use mathlib.Core.List.{List, [], ◌∷◌, ◌++◌, append_assoc, append-nil}
 use native.Mathlib.Omega.{arith}
 use Rattle.std.specs.Prelude.{Some, None}
-use Rattle.kinds.specs.Limits.{standard, token_limit}
-use Rattle.plan.specs.Pieces.{Piece, OP, TOKEN, BEGIN, END, Shows, pieces}
-use Rattle.plan.proofs.Acceptable.{acceptable_plan}
+use Rattle.plan.specs.Pieces.{Piece, OP, TOKEN, BEGIN, END, pieces}
 use Rattle.kinds.proofs.Tests.{never}
 use Rattle.pieces.specs.declared.Piece.{Piece as CodePiece}
 use Rattle.items.specs.Walk.{Passed, ShowsAhead}
@@ -20,6 +18,7 @@ use Rattle.words_meaning.proofs.Flat.{pieces-link}
 use Rattle.words_shelf.specs.Shelf.{PieceStands, Readable, linked_text, linked_word, seek, seek_piece, stands_to}
 use Rattle.words_shelf.specs.Words.{Shelved, word_at, word_in, word_of, words_to}
 use Rattle.words_shelf.specs.declared.WordAt.{WordAt}
+use Rattle.words_shelf.proofs.Reading.{plan_readable}
 
 module _ (list : List ℕ) (words : List WordAt) where
   pub seek_unlisted : (n : ℕ) (t : List ℕ) → seek list words n t ≡ None → stands_to list words n t ≡ None
@@ -63,10 +62,7 @@ module _ (list : List ℕ) (words : List WordAt) where
 -- the text of a word that is kept reads
 pub word_reads : (list : List ℕ) (words : List WordAt) {n : ℕ} → Shelved list words n → (r : ℕ) → r < n → Readable (word_of list words r).text
 unfolding word_of
-word_reads list words s r below =
-    let text = (word_in list (word_at words r)).text in
-    let t = acceptable_plan standard text (s r below).2 in
-    record { short = t.short; shows = subst (λ p. Shows token_limit 0 text (pieces p)) (sym t.plan_is) t.shows }
+word_reads list words s r below = plan_readable (word_in list (word_at words r)).text (s r below).2
 
 -- its linked plan is that of its text, linked by the words before it, as a shelf has them
 pub word_linked : {list : List ℕ} {words : List WordAt} {rank : ℕ} {list' : List ℕ} {words' : List WordAt} {n : ℕ} {text : List ℕ}

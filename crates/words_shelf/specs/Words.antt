@@ -1,7 +1,7 @@
 -- The words of a list, by where each of them stands in it.
-use Rattle.std.specs.Prelude.{ℕ, zero, suc, ◌≡◌, ◌<◌, true, List, [], ◌∷◌, get_or}
+use Rattle.std.specs.Prelude.{ℕ, zero, suc, ◌≡◌, ◌<◌, Bool, true, false, List, [], ◌∷◌, get_or}
 use Rattle.kinds.specs.Limits.{standard}
-use Rattle.plan.specs.Read.{acceptable}
+use Rattle.plan.specs.Reading.{FAULT, PLAN, Reading, read_text}
 use Rattle.stored.specs.Spans.{SpanWithin, part, span}
 use Rattle.words_meaning.specs.Linking.{Word}
 use Rattle.words_shelf.specs.declared.WordAt.{WordAt}
@@ -22,9 +22,14 @@ unfoldable pub words_to : (list : List ℕ) → (words : List WordAt) → (n : �
 words_to list words zero = []
 words_to list words (suc n) = word_of list words n ∷ words_to list words n
 
--- its bytes are all there, and its text is acceptable
+-- whether a text reads as a plan, however many cells that has; as a test, since what a shelf promises of its words has one proof at most
+unfoldable pub is_plan : Reading → Bool
+is_plan (PLAN p) = true
+is_plan (FAULT f) = false
+
+-- its bytes are all there, and its text reads
 abbrev pub WordKept : (list : List ℕ) → WordAt → Type 0
-WordKept list w = SpanWithin list w.name × SpanWithin list w.text × (acceptable standard (part list w.text) ≡ true)
+WordKept list w = SpanWithin list w.name × SpanWithin list w.text × (is_plan (read_text standard (part list w.text)) ≡ true)
 
 -- so are all the words of the ranks below n
 abbrev pub Shelved : (list : List ℕ) → (words : List WordAt) → (n : ℕ) → Type 0

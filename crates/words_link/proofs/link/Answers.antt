@@ -2,7 +2,7 @@
 use Rattle.std.proofs.lemmas.Result.{err_from_is_err_and}
 use Rattle.read.proofs.Accepting.{found_counted, found_faulty}
 use Rattle.words_link.proofs.Outcomes.{list_bad, text_bad, text_right}
-use Rattle.words_link.proofs.TextReads.{reads_readable}
+use Rattle.words_shelf.proofs.Reading.{reads_readable}
 use Rattle.words_link.proofs.link.Goals as goal
 
 pub returns-in_err-shelf : goal.returns-in_err-shelf
