@@ -3,7 +3,7 @@
 // nothing grows with the square of the list's bytes.
 #![tactic(auto)]
 
-ghost use Rattle.std.specs.Prelude.{◌≡◌, ℕ, [], ◌≤◌, length, drop, MatchOption, MatchResult, false};
+ghost use Rattle.std.specs.Prelude.{◌≡◌, ℕ, [], ◌≤◌, length, drop, IfOk, MatchOption, MatchResult, false};
 ghost use Rattle.kinds.specs.Limits.{standard, token_limit};
 ghost use Rattle.plan.specs.Pieces.{pieces};
 ghost use Rattle.plan.specs.Reading.{plan_of};
@@ -145,7 +145,8 @@ fn earliest(shelf: &Shelf) -> usize
 
 // Judges a list, and finds where its words stand.
 pub fn check_list<'a>(list: &'a [u8], words: &'a mut Words) -> Result<Shelf<'a>, LinkRefusal>
-    ensures { MatchResult result (λ s. stock standard list.now ≡ WORDS (words_to s.list.now s.words.now s.below)) (λ r. (rank : ℕ) × (r ≡ BadWords rank) × (stock standard list.now ≡ LIST_FAULT rank)) }
+    ensures told { MatchResult result (λ s. stock standard list.now ≡ WORDS (words_to s.list.now s.words.now s.below)) (λ r. (rank : ℕ) × (r ≡ BadWords rank) × (stock standard list.now ≡ LIST_FAULT rank)) }
+    ensures own_list { IfOk result (λ s. s.list.now ≡ list.now) }
 {
     let Some(count) = number_at(list, 0) else {
         return Err(LinkRefusal::BadWords(0));
