@@ -20,7 +20,7 @@ use words_measure::Sizes;
 use words_shelf::Shelf;
 
 // Where in the output the linked texts of the words stand that were written.
-type Places = [Option<Span>; MOST];
+pub type Places = [Option<Span>; MOST];
 
 // Writes a piece, and gives the place behind it.
 fn put_itself(text: &[u8], piece: Piece, out: &mut [u8], put: usize) -> usize
@@ -90,7 +90,7 @@ fn write_word(
 // Writes a text's plan, linked by the words of a shelf, and gives the place behind it. A word that it uses is written in the same way: its
 // rank is smaller, so this ends.
 #[cycle(write_text_write_word)]
-fn write_text(
+pub fn write_text(
     shelf: &Shelf,
     text: &[u8],
     sizes: &Sizes,
