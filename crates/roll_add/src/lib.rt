@@ -13,6 +13,7 @@ use roll_format::{LONGEST, NewEntry};
 use roll_put::{entry_size, put_entry};
 use roll_read::judge_roll;
 use roll_rules::{Counts, RollRefusal, Sums, Tally};
+use roll_standing::Front;
 use roll_weigh::weigh;
 
 // What the roll comes to, and what an entry that may be added behind it counts as; or what is wrong with the roll, and then with the entry.
@@ -20,7 +21,11 @@ fn weigh_roll(roll: &[u8], added: NewEntry) -> Result<(Sums, Counts), RollRefusa
     ensures { RollWeighed roll.now (parts_in added.entry) result }
 {
     let sums = judge_roll(roll)?;
-    let counts = weigh(roll, sums.end as usize, added)?;
+    let front = Front {
+        roll,
+        upto: sums.end as usize,
+    };
+    let counts = weigh(&front, added)?;
     Ok((sums, counts))
 }
 

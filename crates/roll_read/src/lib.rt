@@ -6,7 +6,7 @@ ghost use Rattle.std.specs.Prelude.{◌≡◌, Some, List, ◌≤◌, length, dr
 ghost use Rattle.kinds.specs.Limits.{standard};
 ghost use Rattle.stored.specs.Spans.{SpanWithin, part};
 ghost use Rattle.roll_format.specs.Format.{Entry, entry, listing, longest, parts_in, parts_of};
-ghost use Rattle.roll_rules.specs.EntriesBefore.{Behind, EntriesBefore, HasEntriesBefore};
+ghost use Rattle.roll_rules.specs.EntriesBefore.{Behind, EntriesBefore};
 ghost use Rattle.roll_rules.specs.Answers.{by_rules, edition_1, judged, one_entry, places};
 ghost use Rattle.roll_read.specs.Calls.{Lists};
 ghost use Rattle.roll_read.specs.Judging.{Fillable, entry_judged, judged_as};
@@ -14,6 +14,7 @@ ghost use Rattle.roll_read.specs.Judging.{Fillable, entry_judged, judged_as};
 use roll_entries::{EntryAt, entry_at, next_of};
 use roll_format::{EntryKind, FIRST, LONGEST, NewEntry};
 use roll_rules::{Counts, EntryRefusal, FoundEntry, RollRefusal, Sums};
+use roll_standing::Front;
 use roll_weigh::weigh;
 use stored::{Span, part};
 
@@ -40,12 +41,11 @@ fn entry_of(roll: &[u8], kind: EntryKind, job: Span, text: Span) -> NewEntry<'_>
     }
 }
 
-// The entry at a place, behind entries that obey the rules: none where it is torn. Whatever is wrong with it, the roll is refused by its
-// place.
-fn judge_entry(roll: &[u8], at: usize) -> Result<Option<JudgedEntry>, RollRefusal>
-    requires { HasEntriesBefore roll.now at }
-    ensures { Behind roll.now at (λ earlier. result ≡ entry_judged earlier at (entry (drop at roll.now)) roll.now) }
+// The entry behind the front of a roll: none where it is torn. Whatever is wrong with it, the roll is refused by its place.
+fn judge_entry(front: &Front) -> Result<Option<JudgedEntry>, RollRefusal>
+    ensures { Behind front.now.roll.now front.now.upto (λ earlier. result ≡ entry_judged earlier front.now.upto (entry (drop front.now.upto front.now.roll.now)) front.now.roll.now) }
 {
+    let Front { roll, upto: at, .. } = *front;
     let Some(entry) = entry_at(roll, at) else {
         return Ok(None);
     };
@@ -56,7 +56,7 @@ fn judge_entry(roll: &[u8], at: usize) -> Result<Option<JudgedEntry>, RollRefusa
             job,
             text,
             next,
-        } => match weigh(roll, at, entry_of(roll, kind, job, text)) {
+        } => match weigh(front, entry_of(roll, kind, job, text)) {
             Err(_) => Err(RollRefusal::BadRoll(at as u32)),
             Ok(counts) => Ok(Some(JudgedEntry { next, counts })),
         },
@@ -74,7 +74,10 @@ fn judge_entries(roll: &[u8]) -> Result<Sums, RollRefusal>
         done: 0,
         end: 1,
     };
-    while let Some(JudgedEntry { next, counts }) = judge_entry(roll, sums.end as usize)? {
+    while let Some(JudgedEntry { next, counts }) = judge_entry(&Front {
+        roll,
+        upto: sums.end as usize,
+    })? {
         let end = next as u32;
         sums = sums.with_entry(counts, end);
     }

@@ -1,3 +1,4 @@
+pub mod Fronts
 pub mod Jobs
 pub mod LookedBack
 pub mod Looking

@@ -6,8 +6,8 @@ ghost use Rattle.std.specs.List.{list_all};
 ghost use Rattle.std.specs.Char.{is_ascii_digit};
 ghost use Rattle.kinds.specs.Limits.{standard};
 ghost use Rattle.stored.specs.Spans.{SpanWithin, part};
-ghost use Rattle.roll_rules.specs.Rules.{is_job, is_printed, newest, standing};
-ghost use Rattle.roll_rules.specs.EntriesBefore.{Behind, HasEntriesBefore};
+ghost use Rattle.roll_rules.specs.Rules.{is_job, is_printed, newest};
+ghost use Rattle.roll_rules.specs.EntriesBefore.{HasEntriesBefore};
 ghost use Rattle.roll_entries.specs.Entries.{EntryWithin, says_told};
 ghost use Rattle.roll_standing.specs.Looking.{StandingWithin, standing_told};
 
@@ -86,21 +86,35 @@ fn newest(
     }
 }
 
-// How a job stands by the entries before a place; before 0, in a roll of no bytes, there is none.
-pub fn look_back(roll: &[u8], upto: usize, job: &[u8]) -> StandingAt
-    requires { HasEntriesBefore roll.now upto }
-    ensures within { StandingWithin roll.now result }
-    ensures told { Behind roll.now upto (λ earlier. standing_told roll.now result ≡ standing job.now earlier) }
-{
-    if upto == 0 {
-        return StandingAt::Unfiled;
+// The front of a roll: its entries before a place, which obey the rules. Before 0, in a roll of no bytes, there is none.
+#[derive(Clone, Copy)]
+pub struct Front<'a> {
+    pub roll: &'a [u8],
+    pub upto: usize,
+    pub ghost entries: { ∥ HasEntriesBefore roll.now upto ∥₁ },
+}
+
+impl<'a> Front<'a> {
+    ghost use Rattle.std.specs.Prelude.{◌≡◌};
+    ghost use Rattle.roll_rules.specs.Rules.{standing};
+    ghost use Rattle.roll_rules.specs.EntriesBefore.{Behind};
+    ghost use Rattle.roll_standing.specs.Looking.{StandingWithin, standing_told};
+
+    // How a job stands by these entries.
+    pub fn look_back(&self, job: &[u8]) -> StandingAt
+        ensures within { StandingWithin self.now.roll.now result }
+        ensures told { Behind self.now.roll.now self.now.upto (λ earlier. standing_told self.now.roll.now result ≡ standing job.now earlier) }
+    {
+        if self.upto == 0 {
+            return StandingAt::Unfiled;
+        }
+        let mut at: usize = 1;
+        let mut found = StandingAt::Unfiled;
+        while at != self.upto {
+            let entry = entry_at(self.roll, at);
+            found = newest(self.roll, at, entry, job, found);
+            at = next_of(entry, self.upto);
+        }
+        found
     }
-    let mut at: usize = 1;
-    let mut found = StandingAt::Unfiled;
-    while at != upto {
-        let entry = entry_at(roll, at);
-        found = newest(roll, at, entry, job, found);
-        at = next_of(entry, upto);
-    }
-    found
 }

@@ -3,16 +3,17 @@ use Rattle.std.proofs.Common.{◌≡◌, List, ap, reverse, ◌∙◌}
 use Rattle.roll_format.specs.Format.{Entry}
 use Rattle.roll_rules.specs.EntriesBefore.{EntriesBefore}
 use Rattle.roll_rules.specs.Rules.{FILED_AT, standing}
+use Rattle.roll_standing.proofs.Fronts.{front_entries}
 use Rattle.roll_weigh.proofs.Weights.{done_again, done-finished, done_unfiled, done-unfinished, filed-finished, filed_shows}
 use Rattle.roll_weigh.proofs.weigh_done.Goals as goal
 use Rattle.roll_weigh.proofs.weigh_done.Goals.{After-part}
 
 -- the text that stands filed, as it is lent
-filed : (c : After-part) (es : List Entry) → EntriesBefore c.args.roll.now es c.args.upto → FILED_AT c.in-Filed.at c.part.result.now ≡ standing c.args.job.now (reverse es)
+filed : (c : After-part) (es : List Entry) → EntriesBefore c.args.front.now.roll.now es c.args.front.now.upto → FILED_AT c.in-Filed.at c.part.result.now ≡ standing c.args.job.now (reverse es)
 filed c es b = ap (FILED_AT c.in-Filed.at) c.part.ensures ∙ c.in-Filed.ensures.told es b
 
 pub is_finished-requires : goal.is_finished-requires
-is_finished-requires c = filed_shows _ c.requires (filed (goal.at.is_finished-requires c).After-part c.requires.es c.requires.before)
+is_finished-requires c = let b = front_entries _ _ c.args.front.now.entries in filed_shows _ b (filed (goal.at.is_finished-requires c).After-part b.es b.before)
 
 pub returns-then-not-is_finished : goal.returns-then-not-is_finished
 returns-then-not-is_finished c es b =

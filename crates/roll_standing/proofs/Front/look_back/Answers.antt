@@ -1,12 +1,13 @@
 -- `look_back`: each turn of the loop goes past one entry.
+use Rattle.roll_standing.proofs.Fronts.{front_entries}
 use Rattle.roll_standing.proofs.LookedBack.{looked_end, looked_first, looked_less, looked_on, looked_there, looked_within, unfiled_at_0}
-use Rattle.roll_standing.proofs.look_back.Goals as goal
+use Rattle.roll_standing.proofs.Front.look_back.Goals as goal
 
-pub returns-then-upto-eq0-clause-told : goal.returns-then-upto-eq0-clause-told
-returns-then-upto-eq0-clause-told c = unfiled_at_0 _ _ c.if-upto-eq0.true
+pub returns-then-self-eq0-clause-told : goal.returns-then-self-eq0-clause-told
+returns-then-self-eq0-clause-told c = unfiled_at_0 _ _ c.if-self-eq0.true
 
 pub loop-at-init : goal.loop-at-init
-loop-at-init c = looked_first _ c.requires c.if-upto-eq0.false
+loop-at-init c = looked_first _ (front_entries _ _ c.args.self.now.entries) c.if-self-eq0.false
 
 pub newest-found-requires : goal.newest-found-requires
 newest-found-requires c =
@@ -22,4 +23,4 @@ loop-at-preserved c =
     looked_on c.loop-at.invariant c.loop-at-test.true _ _ c.entry_at-entry.ensures c.next_of-at.ensures _ e.within e.told
 
 pub returns-clause-told : goal.returns-clause-told
-returns-clause-told c = looked_end c.loop-at.invariant c.if-upto-eq0.false c.loop-at-test.false
+returns-clause-told c = looked_end c.loop-at.invariant c.if-self-eq0.false c.loop-at-test.false
