@@ -2,6 +2,7 @@
 ghost use Rattle.std.specs.Prelude.{◌≡◌, max};
 
 use roll_add::{Entered, done_entry, file_entry};
+use roll_format::NewEntry;
 use roll_rules::{Counts, RollRefusal, Sums};
 
 // More bytes than the roll has, with the entry that is added to the whole of it.
@@ -15,23 +16,24 @@ pub const NO_ENTRIES: Sums = Sums {
     end: 0,
 };
 
-// What a line says of its entry: how it counts, its job, its text where it has one, and how many bytes it takes.
+// What a line says of its entry: the entry, how it counts, and how many bytes it takes.
 #[derive(Clone, Copy)]
-pub struct NewEntry<'a> {
+pub struct LineEntry<'a> {
+    entry: NewEntry<'a>,
     counts: Counts,
-    job: &'a [u8],
-    text: Option<&'a [u8]>,
     bytes: u32,
 }
 
 // The entry that each front is gone on with.
-pub const NEXT: NewEntry<'static> = NewEntry {
+pub const NEXT: LineEntry<'static> = LineEntry {
+    entry: NewEntry::Filed {
+        job: b"999",
+        text: b"{x}",
+    },
     counts: Counts {
         filed: true,
         done: false,
     },
-    job: b"999",
-    text: Some(b"{x}"),
     bytes: 12 + 3 + 3,
 };
 
@@ -48,7 +50,7 @@ fn more_than_line(counts: Counts) -> u32 {
     if counts.done { 5 } else { 8 }
 }
 
-impl<'a> NewEntry<'a> {
+impl<'a> LineEntry<'a> {
     // A line is its kind, a SP, a job of three digits and, where it has a text, a SP and that. An LF ends it.
     pub fn of(line: &'a [u8]) -> Option<Self> {
         let (head, rest) = line.split_first_chunk::<6>()?;
@@ -57,19 +59,23 @@ impl<'a> NewEntry<'a> {
             done: head[0] == b'd',
         };
         let line_bytes = u32::try_from(line.len()).ok()?;
+        let job = &head[2..5];
+        let entry = match rest.split_last() {
+            Some((_, text)) => NewEntry::Filed { job, text },
+            None => NewEntry::Done { job },
+        };
         Some(Self {
+            entry,
             counts,
-            job: &head[2..5],
-            text: rest.split_last().map(|(_, text)| text),
             bytes: line_bytes.saturating_add(more_than_line(counts)),
         })
     }
 
     // Adds the entry to the first bytes of a buffer.
     pub fn enter(self, roll: &mut [u8; ROLL], used: u32) -> Result<Entered, RollRefusal> {
-        match self.text {
-            Some(text) => file_entry(roll, used as usize, self.job, text),
-            None => done_entry(roll, used as usize, self.job),
+        match self.entry {
+            NewEntry::Filed { job, text } => file_entry(roll, used as usize, job, text),
+            NewEntry::Done { job } => done_entry(roll, used as usize, job),
         }
     }
 
@@ -86,5 +92,5 @@ impl<'a> NewEntry<'a> {
 
 // What a roll is to read as with the entry of a line more, where the line has one.
 pub fn with_line(before: Sums, line: &[u8]) -> Sums {
-    NewEntry::of(line).map_or(before, |entry| entry.added_to(before))
+    LineEntry::of(line).map_or(before, |entry| entry.added_to(before))
 }

@@ -18,7 +18,7 @@ mod entering;
 mod fault;
 
 use cutting::{LIST, Whole, read_front};
-use entering::{NO_ENTRIES, NewEntry, ROLL, with_line};
+use entering::{LineEntry, NO_ENTRIES, ROLL, with_line};
 use fault::{Fault, right_or_told};
 use lines::read_input;
 use roll_rules::{RollNumbers, Sums, Tally};
@@ -41,7 +41,7 @@ fn build_line(
     before: Sums,
     expected: Sums,
 ) -> Result<(), Fault> {
-    let entry = NewEntry::of(line).ok_or(Fault::AddedWrong)?;
+    let entry = LineEntry::of(line).ok_or(Fault::AddedWrong)?;
     let entered = entry
         .enter(roll, before.end)
         .map_err(|_| Fault::AddedWrong)?;
