@@ -19,14 +19,9 @@ fn tell_short(rt: &(impl Print + Eprint), text: &[u8], count: usize, counted: &[
 
 // Writes the line of a case again, without its end. The second field is told by a count if it is too long.
 pub fn echo(rt: &(impl Print + Eprint), fields: Fields, count: usize, counted: &[u8]) {
-    let bar = b" | ";
-    say(rt, fields.label);
-    say(rt, bar);
+    say(rt, fields.before);
     tell_short(rt, fields.second, count, counted);
-    say(rt, bar);
-    say(rt, fields.third);
-    say(rt, bar);
-    say(rt, fields.fourth);
+    say(rt, fields.behind);
 }
 
 // Behind a line: the five numbers and the printed text.

@@ -1,7 +1,7 @@
 // A text cut at a sign, and the fields of a line, which the sign ` | ` parts.
 ghost use Rattle.std.specs.Prelude.{◌≡◌, ◌+◌, ◌++◌, ◌<◌, IfSome, length};
 ghost use Rattle.std.specs.Iterator.{at_most};
-ghost use Rattle.lines.specs.Parts.{turns};
+ghost use Rattle.lines.specs.Parts.{CutAt, InOrder, turns};
 
 // The parts of a text that a sign parts. A text without the sign is one part, also where it is empty.
 #[derive(Clone, Copy)]
@@ -12,12 +12,15 @@ pub struct Parts<'a> {
 }
 
 // The fields of a line of a case. One that the line does not have is empty, and a fifth is part of the fourth, which is then no number.
+// Since a line is written again but for its second field, all that stands before that one and all behind it are here too, signs and all.
 #[derive(Clone, Copy)]
 pub struct Fields<'a> {
     pub label: &'a [u8],
     pub second: &'a [u8],
     pub third: &'a [u8],
     pub fourth: &'a [u8],
+    pub before: &'a [u8],
+    pub behind: &'a [u8],
 }
 
 // What stands before the first sign, and what stands behind it.
@@ -64,16 +67,27 @@ impl<'a> Iterator for Parts<'a> {
     }
 }
 
-pub fn fields_of(line: &[u8]) -> Fields<'_> {
-    let mut parts = Parts::of(line, b" | ");
-    let label = parts.next().unwrap_or(b"");
-    let second = parts.next().unwrap_or(b"");
-    let third = parts.next().unwrap_or(b"");
-    let fourth = parts.left.unwrap_or(b"");
+// A text cut at its first sign. One without the sign stands before the cut, all of it.
+fn cut<'a>(text: &'a [u8], sign: &[u8]) -> (&'a [u8], &'a [u8])
+    ensures { CutAt sign.now text.now result.0.now result.1.now }
+{
+    split_once(text, sign).unwrap_or((text, b""))
+}
+
+pub fn fields_of(line: &[u8]) -> Fields<'_>
+    ensures in_order { InOrder line.now result.label.now result.second.now result.third.now result.fourth.now }
+    ensures again { line.now ≡ result.before.now ++ (result.second.now ++ result.behind.now) }
+{
+    let bar = b" | ";
+    let (label, from_second) = cut(line, bar);
+    let (second, from_third) = cut(from_second, bar);
+    let (third, fourth) = cut(from_third, bar);
     Fields {
         label,
         second,
         third,
         fourth,
+        before: &line[..line.len() - from_second.len()],
+        behind: &from_second[second.len()..],
     }
 }
