@@ -4,10 +4,10 @@ use Rattle.std.specs.Prelude.{ℕ, ◌+◌, ◌*◌, ◌≡◌, List, [], ◌∷
 use Rattle.plan.specs.Plan.{Plan, labels}
 use Rattle.memory.specs.Held.{BlockIn, HeldIn, held_numbers}
 use Rattle.memory.specs.Memory.{start, close, ports, Linked, Below, Distinct}
-use Rattle.memory.specs.declared.Held.{Held}
+use Rattle.memory.specs.declared.HeldPlan.{HeldPlan}
 
 -- the memory holds a plan with a block at the cell c
-pub record HasBlock (text : List ℕ) (h : Held) (c : ℕ) : Type 0 where
+pub record HasBlock (text : List ℕ) (h : HeldPlan) (c : ℕ) : Type 0 where
   pub plan : Plan ℕ
   pub contents : Plan ℕ
   pub held : HeldIn text h plan
@@ -20,9 +20,9 @@ pub record Alone (n : ℕ) (w : List ℕ) (c : ℕ) (b : Plan ℕ) : Type 0 wher
   pub below : Below n (c ∷ labels b)
 
 -- the memory has such a block
-pub record Leaves (h : Held) (c : ℕ) : Type 0 where
+pub record Leaves (h : HeldPlan) (c : ℕ) : Type 0 where
   pub contents : Plan ℕ
-  pub alone : Alone h.outer.0 (held_numbers h) c contents
+  pub alone : Alone h.kept.outer.0 (held_numbers h) c contents
 
 -- the cells of the list go to the front of the free ones, one after the other
 unfoldable pub freed : List ℕ → (free : ℕ) → List ℕ → List ℕ
@@ -34,12 +34,12 @@ first_free free [] = free
 first_free free (c ∷ cs) = first_free c cs
 
 -- the cells of the list are free in the memory
-pub record CellsFreed (h : Held) (cs : List ℕ) (h' : Held) : Type 0 where
+pub record CellsFreed (h : HeldPlan) (cs : List ℕ) (h' : HeldPlan) : Type 0 where
   -- the start of each keeps the cell that was the first free one before it, and no other number changed
-  pub numbers : held_numbers h' ≡ freed (held_numbers h) h.free.0 cs
+  pub numbers : held_numbers h' ≡ freed (held_numbers h) h.kept.free.0 cs
   -- the last of them is the first free one
-  pub frees : h'.free.0 ≡ first_free h.free.0 cs
+  pub frees : h'.kept.free.0 ≡ first_free h.kept.free.0 cs
 
 -- the cells of the block at c are free: its own, then those of its contents in their order
-abbrev pub BlockFreed : Held → (c : ℕ) → Held → Type 0
-BlockFreed h c h' = (b : Plan ℕ) → Alone h.outer.0 (held_numbers h) c b → CellsFreed h (c ∷ labels b) h'
+abbrev pub BlockFreed : HeldPlan → (c : ℕ) → HeldPlan → Type 0
+BlockFreed h c h' = (b : Plan ℕ) → Alone h.kept.outer.0 (held_numbers h) c b → CellsFreed h (c ∷ labels b) h'

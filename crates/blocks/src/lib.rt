@@ -9,10 +9,10 @@ ghost use Rattle.memory.specs.Memory.{start, ports, last_of};
 ghost use Rattle.blocks.specs.Blocks.{Alone, BlockFreed, HasBlock, Leaves};
 
 use kinds::Cell;
-use memory::{Held, Port};
+use memory::{HeldPlan, Port};
 
 // How many cells the contents of a block have. The text itself is not read. It is there for the contract, which tells the plan by it.
-pub fn block_cells(text: &[u8], held: &Held, block: Cell) -> u32
+pub fn block_cells(text: &[u8], held: &HeldPlan, block: Cell) -> u32
     requires { HasBlock text.now held.now block.0 }
     ensures { (t b : Plan ℕ) → HeldIn text.now held.now t → BlockIn block.0 b t → result ≡ cells b }
 {
@@ -30,7 +30,7 @@ pub fn block_cells(text: &[u8], held: &Held, block: Cell) -> u32
 
 // Frees the cells of a block that no plan links to any more, in the order of their starts. The start of a free cell keeps the next free
 // one, so the link to the next port is read before the cell is freed.
-pub fn free_block(held: &mut Held, block: Cell)
+pub fn free_block(held: &mut HeldPlan, block: Cell)
     requires { Leaves held.old block.0 }
     ensures frees { BlockFreed held.old block.0 held.new }
     ensures same { SameCells held.old held.new }
@@ -40,18 +40,18 @@ pub fn free_block(held: &mut Held, block: Cell)
     while at != end {
         let next = held.link_of(at);
         if !at.closes() {
-            let spare = held.free;
+            let spare = held.kept.free;
             held.keep_cell(at, spare);
-            held.free = at.cell();
+            held.kept.free = at.cell();
         }
         at = next;
     }
 }
 
 // The last port inside a block: its own start, where it is empty.
-pub fn last_port(held: &Held, block: Cell) -> Port
+pub fn last_port(held: &HeldPlan, block: Cell) -> Port
     requires { Leaves held.now block.0 }
-    ensures { (b : Plan ℕ) → Alone held.now.outer.0 (held_numbers held.now) block.0 b → result.0 ≡ last_of (start block.0) (ports b) }
+    ensures { (b : Plan ℕ) → Alone held.now.kept.outer.0 (held_numbers held.now) block.0 b → result.0 ≡ last_of (start block.0) (ports b) }
 {
     let end = Port::close(block);
     let mut port = Port::start(block);

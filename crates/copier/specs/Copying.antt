@@ -6,15 +6,15 @@ use Rattle.memory.specs.Held.{BlockIn, HeldIn, held_numbers}
 use Rattle.memory.specs.Memory.{start, close, datum, block_kind, ports, Linked, Says, Shared}
 use Rattle.memory.specs.Model.{FindsCell, Model, Buildable, model, with_piece}
 use Rattle.memory.specs.Pieces.{piece_at}
-use Rattle.memory.specs.declared.Held.{Held}
+use Rattle.memory.specs.declared.HeldPlan.{HeldPlan}
 
 -- the memory holds the plan t; a block at the cell c with the contents b stands in t; and there is room for a copy of that block
-pub record Copies (text : List ℕ) (h : Held) (c : ℕ) (t b : Plan ℕ) : Type 0 where
+pub record Copies (text : List ℕ) (h : HeldPlan) (c : ℕ) (t b : Plan ℕ) : Type 0 where
   pub held : HeldIn text h t
   pub found : BlockIn c b t
-  pub room : cells t + (1 + cells b) ≤ h.outer.0
+  pub room : cells t + (1 + cells b) ≤ h.kept.outer.0
 
-pub record Copyable (text : List ℕ) (h : Held) (c : ℕ) : Type 0 where
+pub record Copyable (text : List ℕ) (h : HeldPlan) (c : ℕ) : Type 0 where
   pub plan : Plan ℕ
   pub contents : Plan ℕ
   pub copies : Copies text h c plan contents
@@ -31,15 +31,15 @@ pub record CopyHeld (text : List ℕ) (n : ℕ) (w : List ℕ) (free copy : ℕ)
   pub shared : Shared n w free (labels t ++ copy ∷ labels contents)
 
 -- the memory holds the plan t, and beside it such a copy
-abbrev pub CopyMade : (text : List ℕ) → Held → (copy : ℕ) → (t b : Plan ℕ) → Type 0
-CopyMade text h copy t b = CopyHeld text h.outer.0 (held_numbers h) h.free.0 copy t b
+abbrev pub CopyMade : (text : List ℕ) → HeldPlan → (copy : ℕ) → (t b : Plan ℕ) → Type 0
+CopyMade text h copy t b = CopyHeld text h.kept.outer.0 (held_numbers h) h.kept.free.0 copy t b
 
 -- the step that puts the like of a port: the piece that the port shows
 unfoldable pub like : Model → (port : ℕ) → Model
 like s port = with_piece s (piece_at s.numbers port)
 
 -- a port of a lent cell, whose like can be put
-pub record LikeReady (b : Held) (port : ℕ) : Type 0 where
+pub record LikeReady (b : HeldPlan) (port : ℕ) : Type 0 where
   pub ready : Buildable b
-  pub below : port < start b.outer.0
-  pub finds : FindsCell b.free.0 b.opened.0 b.outer.0 (piece_at (model b).numbers port)
+  pub below : port < start b.kept.outer.0
+  pub finds : FindsCell b.kept.free.0 b.opened.0 b.kept.outer.0 (piece_at (model b).numbers port)

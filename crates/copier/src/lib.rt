@@ -10,10 +10,10 @@ ghost use Rattle.copier.specs.Copying.{Copies, Copyable, CopyMade, LikeReady, li
 
 use builder::{begin_apart, put_piece};
 use kinds::Cell;
-use memory::{Held, Port};
+use memory::{HeldPlan, Port};
 
 // Puts the like of a port behind the last item.
-fn put_like(held: &mut Held, port: Port)
+fn put_like(held: &mut HeldPlan, port: Port)
     requires { LikeReady held.old port.0 }
     ensures { Stepped held.old held.new (like (model held.old) port.0) }
 {
@@ -22,12 +22,12 @@ fn put_like(held: &mut Held, port: Port)
 }
 
 // Copies the block at a cell into the first free cells, beside the plan as it is held. Answers the cell of the copy.
-pub fn copy_block(text: &[u8], held: &mut Held, block: Cell) -> Cell
+pub fn copy_block(text: &[u8], held: &mut HeldPlan, block: Cell) -> Cell
     requires { Copyable text.now held.old block.0 }
     ensures made { (t b : Plan ℕ) → Copies text.now held.old block.0 t b → CopyMade text.now held.new result.0 t b }
     ensures same { SameCells held.old held.new }
 {
-    let copy = held.free;
+    let copy = held.kept.free;
     let end = Port::close(block);
     begin_apart(held);
     let mut port = held.link_of(Port::start(block));

@@ -14,7 +14,7 @@ use Rattle.rules.specs.declared.Ending.TheVariants.{Done, Quota, Full}
 use Rattle.plan.proofs.Plans.{cells-relabel}
 use Rattle.rules.proofs.Runs.{ask-relabel, retell, run_go, run_spent, run_stop}
 use Rattle.memory.specs.Held.{SameCells}
-use Rattle.memory.specs.declared.Held.{Held}
+use Rattle.memory.specs.declared.HeldPlan.{HeldPlan}
 use Rattle.memory.proofs.Steps.{same_at, same_on}
 use Rattle.memory.proofs.Steps.{cells_same as still}
 use Rattle.engine.specs.Running.{RanAs, Runnable, Sized, TurnMade, Turned}
@@ -32,19 +32,19 @@ plus_ran zero e s p = ap (λ x. RAN e x p) (omega arith)
 plus_ran (suc k) e s p = plus_ran k e (suc s) p ∙ ap (λ x. RAN e x p) (omega arith)
 
 -- where the run stands: the plan held now, and what is left of the quota
-pub record Reaches (text : List ℕ) (n quota : ℕ) (t₀ : Plan ℕ) (h : Held) (size steps : ℕ) : Type 0 where
+pub record Reaches (text : List ℕ) (n quota : ℕ) (t₀ : Plan ℕ) (h : HeldPlan) (size steps : ℕ) : Type 0 where
   pub plan : Plan ℕ
   pub sized : Sized text h size plan
   pub left : ℕ
   pub counts : steps + left ≡ quota
   pub runs : run_plan n quota (bare t₀) ≡ plus steps (run_plan n left (bare plan))
 
-pub record RunSoFar (text : List ℕ) (h₀ : Held) (size₀ quota : ℕ) (h : Held) (size steps : ℕ) : Type 0 where
+pub record RunSoFar (text : List ℕ) (h₀ : HeldPlan) (size₀ quota : ℕ) (h : HeldPlan) (size steps : ℕ) : Type 0 where
   pub began : Runnable text h₀ size₀
   pub same : SameCells h₀ h
-  pub each : (t : Plan ℕ) → Sized text h₀ size₀ t → Reaches text h₀.outer.0 quota t h size steps
+  pub each : (t : Plan ℕ) → Sized text h₀ size₀ t → Reaches text h₀.kept.outer.0 quota t h size steps
 
-pub so_far-first : {text : List ℕ} {h : Held} {size : ℕ} (quota : ℕ) → Runnable text h size → RunSoFar text h size quota h size 0
+pub so_far-first : {text : List ℕ} {h : HeldPlan} {size : ℕ} (quota : ℕ) → Runnable text h size → RunSoFar text h size quota h size 0
 unfolding plus
 so_far-first quota k =
     record {
@@ -53,33 +53,33 @@ so_far-first quota k =
       each = λ t s. record { plan = t; sized = s; left = quota; counts = omega arith; runs = refl };
     }
 
-module _ {text : List ℕ} {h₀ : Held} {size₀ quota : ℕ} {h : Held} {size steps : ℕ} (g : RunSoFar text h₀ size₀ quota h size steps) where
+module _ {text : List ℕ} {h₀ : HeldPlan} {size₀ quota : ℕ} {h : HeldPlan} {size steps : ℕ} (g : RunSoFar text h₀ size₀ quota h size steps) where
   pub so_far_runnable : Runnable text h size
   so_far_runnable =
       let r = g.each g.began.plan g.began.sized in
       record { plan = r.plan; sized = r.sized }
 
-  cells_same : h.outer.0 ≡ h₀.outer.0
+  cells_same : h.kept.outer.0 ≡ h₀.kept.outer.0
   cells_same = still g.same
 
   -- the turn stopped the run
-  stops : (h' : Held) (e : Ending) (t₀ : Plan ℕ) (r : Reaches text h₀.outer.0 quota t₀ h size steps) → Turned text h (ltb steps quota) h' (Break e) r.plan
-      → (h' ≡ h) × (run_plan h₀.outer.0 r.left (bare r.plan) ≡ RAN e 0 (bare r.plan))
+  stops : (h' : HeldPlan) (e : Ending) (t₀ : Plan ℕ) (r : Reaches text h₀.kept.outer.0 quota t₀ h size steps) → Turned text h (ltb steps quota) h' (Break e) r.plan
+      → (h' ≡ h) × (run_plan h₀.kept.outer.0 r.left (bare r.plan) ≡ RAN e 0 (bare r.plan))
   unfolding retell
   stops h' Done t₀ r (same, asks) =
-      (same, run_stop h₀.outer.0 r.left (bare r.plan) (ask-relabel _ h₀.outer.0 r.plan (rw cells_same at asks)))
+      (same, run_stop h₀.kept.outer.0 r.left (bare r.plan) (ask-relabel _ h₀.kept.outer.0 r.plan (rw cells_same at asks)))
   stops h' Full t₀ r (same, asks) =
-      (same, run_stop h₀.outer.0 r.left (bare r.plan) (ask-relabel _ h₀.outer.0 r.plan (rw cells_same at asks)))
+      (same, run_stop h₀.kept.outer.0 r.left (bare r.plan) (ask-relabel _ h₀.kept.outer.0 r.plan (rw cells_same at asks)))
   stops h' Quota t₀ r (same, no_more, (p, asks)) =
       let none_left : r.left ≡ 0 = omega (arith, ltb-false steps quota no_more, r.counts) in
-      (same, rw none_left (run_spent h₀.outer.0 (bare r.plan) (ask-relabel _ h₀.outer.0 r.plan (rw cells_same at asks))))
+      (same, rw none_left (run_spent h₀.kept.outer.0 (bare r.plan) (ask-relabel _ h₀.kept.outer.0 r.plan (rw cells_same at asks))))
 
   -- the turn went on: one more step, and one fewer is left
-  went : (h' : Held) (size' : ℕ) (t₀ : Plan ℕ) (r : Reaches text h₀.outer.0 quota t₀ h size steps)
-      → Turned text h (ltb steps quota) h' (Continue size') r.plan → Reaches text h₀.outer.0 quota t₀ h' size' (steps + 1)
+  went : (h' : HeldPlan) (size' : ℕ) (t₀ : Plan ℕ) (r : Reaches text h₀.kept.outer.0 quota t₀ h size steps)
+      → Turned text h (ltb steps quota) h' (Continue size') r.plan → Reaches text h₀.kept.outer.0 quota t₀ h' size' (steps + 1)
   unfolding retell plus
   went h' size' t₀ r (is_more, (p, asks, made, sized)) =
-      let n = h₀.outer.0 in
+      let n = h₀.kept.outer.0 in
       let further = ltb-true steps quota is_more in
       let left' : ℕ = r.left - 1 in
       let one : r.left ≡ suc left' = omega (arith, r.counts) in
@@ -95,9 +95,9 @@ module _ {text : List ℕ} {h₀ : Held} {size₀ quota : ℕ} {h : Held} {size 
       }
 
   -- the turn as it was made
-  module _ (h' : Held) (turn : ControlFlow Ending ℕ) (turned : TurnMade text h size (ltb steps quota) h' turn) where
+  module _ (h' : HeldPlan) (turn : ControlFlow Ending ℕ) (turned : TurnMade text h size (ltb steps quota) h' turn) where
     pub so_far_stop : {e : Ending} → turn ≡ Break e → (t : Plan ℕ) → Sized text h₀ size₀ t
-        → RanAs text h₀.outer.0 quota t h' (record { ending = e; steps = steps; size = size })
+        → RanAs text h₀.kept.outer.0 quota t h' (record { ending = e; steps = steps; size = size })
     so_far_stop {e} is t s =
         let r = g.each t s in
         let (same, ended) = stops h' e t r (subst (λ x. Turned text h (ltb steps quota) h' x r.plan) is (turned r.plan r.sized)) in

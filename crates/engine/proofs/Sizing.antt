@@ -15,7 +15,7 @@ use Rattle.rules.proofs.Frames.{cells-plug}
 use Rattle.plan.proofs.Plans.{cells-then, length-labels, then_assoc}
 use Rattle.rules.proofs.Rewrites.{cells_a, cells-b, cells_c, cells_d}
 use Rattle.memory.specs.Held.{BlockIn, HeldIn}
-use Rattle.memory.specs.declared.Held.{Held}
+use Rattle.memory.specs.declared.HeldPlan.{HeldPlan}
 use Rattle.blocks.specs.Blocks.{HasBlock}
 use Rattle.hunt.specs.Hunting.{RuleAt}
 use Rattle.ready.specs.declared.Spot.{Spot}
@@ -23,10 +23,10 @@ use Rattle.hunt.proofs.Window.{stands_rule}
 use Rattle.rewrites.proofs.Gaps.{gap_block}
 use Rattle.engine.specs.Running.{Countable, Spotted}
 
-held_cells : (text : List ℕ) (h : Held) (t : Plan ℕ) → HeldIn text h t → cells t ≤ h.outer.0
+held_cells : (text : List ℕ) (h : HeldPlan) (t : Plan ℕ) → HeldIn text h t → cells t ≤ h.kept.outer.0
 held_cells text h t k = omega (arith, length-labels t, length-append (labels t) k.shared.spare, k.shared.all)
 
-module _ {text : List ℕ} {h : Held} {spot : Spot} {size : ℕ} {f : Frame ℕ} {q q' : Plan ℕ} (k : Spotted text h spot size f q q') where
+module _ {text : List ℕ} {h : HeldPlan} {spot : Spot} {size : ℕ} {f : Frame ℕ} {q q' : Plan ℕ} (k : Spotted text h spot size f q q') where
   abbrev X : Plan ℕ
   X = k.stands.front
 
@@ -80,7 +80,7 @@ module _ {text : List ℕ} {h : Held} {spot : Spot} {size : ℕ} {f : Frame ℕ}
         omega (arith, exact r, k.sized, cells-plug f q end, ap cells r.is, cells-then X (before then b), cells-then before b)
 
 -- what `size_after` asks for
-module _ {text : List ℕ} {h : Held} {spot : Spot} {size : ℕ} (k : Countable text h spot size) where
+module _ {text : List ℕ} {h : HeldPlan} {spot : Spot} {size : ℕ} (k : Countable text h spot size) where
   pub two_fewer : spot.which ≡ op_a → 2 ≤ size
   two_fewer is = omega (arith, size_a k.spotted is)
 

@@ -10,7 +10,7 @@ ghost use Rattle.engine.specs.Running.{Countable, RunMade, Runnable, Spotted, Tu
 
 use blocks::block_cells;
 use hunt::hunt;
-use memory::Held;
+use memory::HeldPlan;
 use plan::Operator;
 use ready::Spot;
 use rewrites::rewrite;
@@ -26,7 +26,7 @@ pub struct Ended {
 }
 
 // How many cells the plan has after the rewrite at a spot. Only the rules of c and d count the cells of their block.
-fn size_after(text: &[u8], held: &Held, spot: Spot, size: u32) -> u32
+fn size_after(text: &[u8], held: &HeldPlan, spot: Spot, size: u32) -> u32
     requires { Countable text.now held.now spot size }
     ensures { (f : Frame ℕ) (q q' : Plan ℕ) → Spotted text.now held.now spot size f q q' → result ≡ cells (plug f q') }
 {
@@ -40,12 +40,12 @@ fn size_after(text: &[u8], held: &Held, spot: Spot, size: u32) -> u32
 
 // One turn: the run stops, or it goes on with the next plan, which has so many cells. FULL is known before anything changes, and before
 // the quota is asked.
-pub fn step(text: &[u8], held: &mut Held, size: u32, more: bool) -> ControlFlow<Ending, u32>
+pub fn step(text: &[u8], held: &mut HeldPlan, size: u32, more: bool) -> ControlFlow<Ending, u32>
     requires { Runnable text.now held.old size }
     ensures turned { TurnMade text.now held.old size more held.new result }
     ensures same { SameCells held.old held.new }
 {
-    let outer = held.outer;
+    let outer = held.kept.outer;
     let Some(spot) = hunt(text, held, outer) else {
         return ControlFlow::Break(Ending::Done);
     };
@@ -61,7 +61,7 @@ pub fn step(text: &[u8], held: &mut Held, size: u32, more: bool) -> ControlFlow<
 }
 
 // The whole run.
-pub fn run(text: &[u8], held: &mut Held, size: u32, quota: u32) -> Ended
+pub fn run(text: &[u8], held: &mut HeldPlan, size: u32, quota: u32) -> Ended
     requires { Runnable text.now held.old size }
     ensures ran { RunMade text.now held.old size quota held.new result }
     ensures same { SameCells held.old held.new }

@@ -15,7 +15,7 @@ use Rattle.memory.specs.Memory.{start, close, datum, link, whole, ports, Says}
 use Rattle.memory.specs.Lent.{Lent}
 use Rattle.std.specs.Prelude.{Option, None, Some}
 use Rattle.memory.specs.Numbered.{kind_of}
-use Rattle.memory.specs.declared.Held.{Held}
+use Rattle.memory.specs.declared.HeldPlan.{HeldPlan}
 use Rattle.memory.specs.declared.Kind.{Kind}
 use Rattle.memory.specs.declared.Kind.TheVariants.{Operator as OPERATOR, Token as TOKEN, Block as BLOCK}
 use Rattle.memory.proofs.Whole.{number-whole}
@@ -41,15 +41,15 @@ pub record Scanning (text m : List ℕ) (n first stop last second third at : ℕ
   pub window : Window sequence y
   pub seen : Seen cell window last second third
 
-module _ {text : List ℕ} {h : Held} {s : ℕ} (can : Scannable text h s) where
+module _ {text : List ℕ} {h : HeldPlan} {s : ℕ} (can : Scannable text h s) where
   pub scan_small : s ≤ cell_limit
   scan_small = omega (arith, can.there.low, h.lent.few)
 
-  pub scan_start : (last : ℕ) → last ≡ start s → last ≤ start h.outer.0
+  pub scan_start : (last : ℕ) → last ≡ start s → last ≤ start h.kept.outer.0
   scan_start last e = omega (arith, can.there.low)
 
   pub scan_first : (stop last at : ℕ) → stop ≡ close s → last ≡ start s → at ≡ link (held_numbers h) last
-      → Scanning text h.numbers.now h.outer.0 h.first.0 stop last last last at
+      → Scanning text h.numbers.now h.kept.outer.0 h.kept.first.0 stop last last last at
   unfolding begin ports
   scan_first stop last at e l a =
       rw (e, a, l) record {

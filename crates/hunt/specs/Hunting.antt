@@ -8,7 +8,7 @@ use Rattle.plan.specs.declared.Operator.{Operator}
 use Rattle.rules.specs.Rewriting.{leftmost, next}
 use Rattle.memory.specs.Held.{HeldIn, held_numbers}
 use Rattle.memory.specs.Memory.{start, close, ports, Linked, Says, Below, Distinct, last_of}
-use Rattle.memory.specs.declared.Held.{Held}
+use Rattle.memory.specs.declared.HeldPlan.{HeldPlan}
 use Rattle.ready.specs.declared.Spot.{Spot}
 
 -- the cell that has the sequence inside it: cell number n for the outermost one
@@ -39,9 +39,9 @@ pub record SequenceAt (text : List ℕ) (n : ℕ) (w : List ℕ) (s : ℕ) (q : 
   pub below : Below n (labels q)
   pub low : s ≤ n
 
-pub record Scannable (text : List ℕ) (h : Held) (s : ℕ) : Type 0 where
+pub record Scannable (text : List ℕ) (h : HeldPlan) (s : ℕ) : Type 0 where
   pub sequence : Plan ℕ
-  pub there : SequenceAt text h.outer.0 (held_numbers h) s sequence
+  pub there : SequenceAt text h.kept.outer.0 (held_numbers h) s sequence
 
 -- of one sequence: no operator of it is ready; or the leftmost ready one is at the spot
 abbrev pub Scanned : Option Spot → (s : ℕ) → (q : Plan ℕ) → Type 0
@@ -63,7 +63,7 @@ pub record Awaits (n : ℕ) (t : Plan ℕ) (from : ℕ) : Type 0 where
   pub cell : from ≡ cell_of n frame
 
 -- the memory holds a plan whose first sequence that may have a ready operator is inside the cell `from`
-pub record Huntable (text : List ℕ) (h : Held) (from : ℕ) : Type 0 where
+pub record Huntable (text : List ℕ) (h : HeldPlan) (from : ℕ) : Type 0 where
   pub plan : Plan ℕ
   pub held : HeldIn text h plan
-  pub awaits : Awaits h.outer.0 plan from
+  pub awaits : Awaits h.kept.outer.0 plan from

@@ -10,13 +10,13 @@ ghost use Rattle.memory.specs.Memory.{start};
 ghost use Rattle.hunt.specs.Hunting.{Finds, Huntable, Scannable, Scanned, SequenceAt};
 
 use kinds::Cell;
-use memory::{Held, Port};
+use memory::{HeldPlan, Port};
 use ready::{Spot, block_opens, end_port, ready_at};
 
 // The leftmost ready operator of the sequence inside a cell.
-pub fn scan(text: &[u8], held: &Held, sequence: Cell) -> Option<Spot>
+pub fn scan(text: &[u8], held: &HeldPlan, sequence: Cell) -> Option<Spot>
     requires { Scannable text.now held.now sequence.0 }
-    ensures { (q : Plan ℕ) → SequenceAt text.now held.now.outer.0 (held_numbers held.now) sequence.0 q → Scanned result sequence.0 q }
+    ensures { (q : Plan ℕ) → SequenceAt text.now held.now.kept.outer.0 (held_numbers held.now) sequence.0 q → Scanned result sequence.0 q }
 {
     let end = Port::close(sequence);
     let mut third = Port::start(sequence);
@@ -37,11 +37,11 @@ pub fn scan(text: &[u8], held: &Held, sequence: Cell) -> Option<Spot>
 }
 
 // The next ready operator of the plan, from the sequence inside a cell on. Nothing before that sequence is ready.
-pub fn hunt(text: &[u8], held: &Held, from: Cell) -> Option<Spot>
+pub fn hunt(text: &[u8], held: &HeldPlan, from: Cell) -> Option<Spot>
     requires { Huntable text.now held.now from.0 }
-    ensures { (t : Plan ℕ) → HeldIn text.now held.now t → Finds result held.now.outer.0 t }
+    ensures { (t : Plan ℕ) → HeldIn text.now held.now t → Finds result held.now.kept.outer.0 t }
 {
-    let end = Port::close(held.outer);
+    let end = Port::close(held.kept.outer);
     let mut port = Port::start(from);
     while port != end {
         if block_opens(held, port) {

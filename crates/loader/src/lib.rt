@@ -11,13 +11,13 @@ ghost use Rattle.memory.specs.Lent.{Aside, Lent};
 use builder::{end_plan, fresh, put_piece};
 use items::{Placed, Walk};
 use kinds::Cell;
-use memory::Held;
+use memory::HeldPlan;
 
 // The plan of the text, in the cells lent.
-pub fn build_plan<'a>(text: &[u8], numbers: &'a mut [u32], outer: Cell) -> Held<'a>
+pub fn build_plan<'a>(text: &[u8], numbers: &'a mut [u32], outer: Cell) -> HeldPlan<'a>
     requires { Lent outer.0 numbers.old × (length text.now ≤ text_limit) × ((p : Plan ℕ) × (read token_limit outer.0 text.now ≡ ACCEPTED p)) }
     ensures holds { (p : Plan ℕ) → read token_limit outer.0 text.now ≡ ACCEPTED p → HeldAlike text.now result p }
-    ensures same_cells { result.outer ≡ outer }
+    ensures same_cells { result.kept.outer ≡ outer }
     ensures same_numbers { result.numbers.ghost_name ≡ numbers.entry.ghost_name }
     ensures aside { Aside outer.0 numbers.old result.numbers.now }
 {

@@ -18,7 +18,7 @@ use Rattle.pieces.proofs.Pieces.{is_in_text, length-piece}
 use Rattle.memory.specs.Memory.{start, close, link, whole, ports, Linked, Below, Absent}
 use Rattle.memory.specs.Lent.{Lent}
 use Rattle.memory.specs.Pieces.{piece_at, Shown, PrintsWithin}
-use Rattle.memory.specs.declared.Held.{Held}
+use Rattle.memory.specs.declared.HeldPlan.{HeldPlan}
 use Rattle.memory.proofs.Along.{along, along_leads, LeadsAlong}
 use Rattle.memory.proofs.Lists.{below_split}
 use Rattle.memory.proofs.Pieces.{piece-whole}
@@ -55,15 +55,15 @@ ahead m n first port = along (whole n m first) (close n) (2 * n) port
 abbrev pub printed_ahead : (text m : List ℕ) → (n first port : ℕ) → List ℕ
 printed_ahead text m n first port = printed_ports text (whole n m first) (ahead m n first port)
 
-module _ (text : List ℕ) (h : Held) (t : Plan ℕ) (held : HeldIn text h t) where
+module _ (text : List ℕ) (h : HeldPlan) (t : Plan ℕ) (held : HeldIn text h t) where
   abbrev m : List ℕ
   m = h.numbers.now
 
   abbrev n : ℕ
-  n = h.outer.0
+  n = h.kept.outer.0
 
   abbrev first : ℕ
-  first = h.first.0
+  first = h.kept.first.0
 
   held_chain : Chain text (whole n m first) n first (ports t)
   held_chain =
@@ -90,8 +90,8 @@ pub record PrintWalk (from room : ℕ) (text m : List ℕ) (n first port put : �
   pub within : put ≤ length (printed_ahead text m n first first)
   pub so_far : printed_ahead text m n first port ≡ drop put (printed_ahead text m n first first)
 
-pub walk_first : (from room : ℕ) (text : List ℕ) (h : Held) → PrintsWithin from room text h
-    → PrintWalk from room text h.numbers.now h.outer.0 h.first.0 h.first.0 0
+pub walk_first : (from room : ℕ) (text : List ℕ) (h : HeldPlan) → PrintsWithin from room text h
+    → PrintWalk from room text h.numbers.now h.kept.outer.0 h.kept.first.0 h.kept.first.0 0
 walk_first from room text h p =
     let e = held_ahead text h p.plan p.held in
     record {
@@ -193,7 +193,7 @@ module _ (from room : ℕ) (text m : List ℕ) (n first port put : ℕ) (walk : 
       }
 
 -- at the end mark the walk has put the whole printed text, of every plan that the memory holds
-pub walk_end : (from room : ℕ) (text : List ℕ) (h : Held) (port put : ℕ) → PrintWalk from room text h.numbers.now h.outer.0 h.first.0 port put
-    → (stop : ℕ) → stop ≡ close h.outer.0 → port ≡ stop → (t : Plan ℕ) → HeldIn text h t → put ≡ length (print t)
+pub walk_end : (from room : ℕ) (text : List ℕ) (h : HeldPlan) (port put : ℕ) → PrintWalk from room text h.numbers.now h.kept.outer.0 h.kept.first.0 port put
+    → (stop : ℕ) → stop ≡ close h.kept.outer.0 → port ≡ stop → (t : Plan ℕ) → HeldIn text h t → put ≡ length (print t)
 walk_end from room text h port put walk stop mark e t held =
-    ended from room text h.numbers.now h.outer.0 h.first.0 port put walk (e ∙ mark) ∙ ap length (held_prints text h t held)
+    ended from room text h.numbers.now h.kept.outer.0 h.kept.first.0 port put walk (e ∙ mark) ∙ ap length (held_prints text h t held)

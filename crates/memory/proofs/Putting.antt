@@ -17,7 +17,7 @@ use Rattle.kinds.proofs.Putting.{put_on as put_behind}
 use Rattle.memory.specs.Held.{HeldIn}
 use Rattle.memory.specs.Memory.{close, link, whole}
 use Rattle.memory.specs.Pieces.{piece_at, PrintsWithin}
-use Rattle.memory.specs.declared.Held.{Held}
+use Rattle.memory.specs.declared.HeldPlan.{HeldPlan}
 use Rattle.memory.proofs.PrintWalk.{printed_ahead, held_prints, PrintWalk, walk_first, ended, size, to_come, walk_fits, walk_on}
 
 -- at the head of the loop: the walk, with room for the whole printed text, and the output
@@ -27,8 +27,8 @@ pub record Putting (text m out₀ : List ℕ) (from : ℕ) (out : List ℕ) (n f
   pub walk : PrintWalk from (length out₀) text m n first port done
   pub holds : out ≡ put_at out₀ from (take done (printed_ahead text m n first first))
 
-pub put_first : (text out : List ℕ) (h : Held) (from : ℕ) → PrintsWithin from (length out) text h
-    → Putting text h.numbers.now out from out h.outer.0 h.first.0 h.first.0 from
+pub put_first : (text out : List ℕ) (h : HeldPlan) (from : ℕ) → PrintsWithin from (length out) text h
+    → Putting text h.numbers.now out from out h.kept.outer.0 h.kept.first.0 h.kept.first.0 from
 put_first text out h from w =
     record { done = 0; at = sym (add-zero from); walk = walk_first from (length out) text h w; holds = sym (put_nothing out from) }
 
@@ -71,9 +71,9 @@ module _ (text m out₀ : List ℕ) (from : ℕ) (out : List ℕ) (n first port 
             holds = is_put ∙ rw (there, inv.holds, both) (put_behind out₀ from gone so_far (piece_bytes text piece));
           }
 
-pub put_last : (text out₀ : List ℕ) (from : ℕ) (out : List ℕ) (h : Held) (port put : ℕ)
-    → Putting text h.numbers.now out₀ from out h.outer.0 h.first.0 port put
-    → (stop : ℕ) → stop ≡ close h.outer.0 → port ≡ stop → (t : Plan ℕ) → HeldIn text h t → out ≡ put_at out₀ from (print t)
+pub put_last : (text out₀ : List ℕ) (from : ℕ) (out : List ℕ) (h : HeldPlan) (port put : ℕ)
+    → Putting text h.numbers.now out₀ from out h.kept.outer.0 h.kept.first.0 port put
+    → (stop : ℕ) → stop ≡ close h.kept.outer.0 → port ≡ stop → (t : Plan ℕ) → HeldIn text h t → out ≡ put_at out₀ from (print t)
 put_last text out₀ from out h port put inv stop mark e t held =
     inv.holds
-    ∙ rw (ended from (length out₀) text h.numbers.now h.outer.0 h.first.0 port inv.done inv.walk (e ∙ mark), take-length, held_prints text h t held)
+    ∙ rw (ended from (length out₀) text h.numbers.now h.kept.outer.0 h.kept.first.0 port inv.done inv.walk (e ∙ mark), take-length, held_prints text h t held)

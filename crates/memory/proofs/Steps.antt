@@ -11,7 +11,7 @@ use Rattle.memory.specs.Memory.{Building}
 use Rattle.memory.specs.Held.{SameCells}
 use Rattle.memory.specs.Lent.{Aside}
 use Rattle.memory.specs.Model.{Buildable, Built, Model, Stepped, model}
-use Rattle.memory.specs.declared.Held.{Held}
+use Rattle.memory.specs.declared.HeldPlan.{HeldPlan}
 use Rattle.memory.proofs.Building.{root_low, tail_within}
 use Rattle.memory.proofs.Lists.{below_split}
 use Rattle.memory.proofs.Whole.{aside_on, aside_same}
@@ -32,7 +32,7 @@ opened_low outermost b =
     let low = root_low b in omega arith
 opened_low (inside c before out) b = let low = opened-lent b in omega arith
 
-pub building_ready : {b : Held} {n : ℕ} {text : List ℕ} {root : ℕ} {others : List ℕ} {out : Around} {here : Plan ℕ} → b.outer.0 ≡ n
+pub building_ready : {b : HeldPlan} {n : ℕ} {text : List ℕ} {root : ℕ} {others : List ℕ} {out : Around} {here : Plan ℕ} → b.kept.outer.0 ≡ n
     → Built text n (model b) root others out here → Buildable b
 building_ready {out = out} e h =
     let within = tail_within h in
@@ -42,10 +42,10 @@ building_ready {out = out} e h =
 
 -- one step after the other
 
-pub same_at : {h : Held} → SameCells h h
+pub same_at : {h : HeldPlan} → SameCells h h
 same_at = record { outer = refl; lent = refl; aside = aside_same }
 
-pub same_on : {h h₁ h₂ : Held} → SameCells h h₁ → SameCells h₁ h₂ → SameCells h h₂
+pub same_on : {h h₁ h₂ : HeldPlan} → SameCells h h₁ → SameCells h₁ h₂ → SameCells h h₂
 same_on {h} {h₁} {h₂} p q =
     record {
       outer = q.outer ∙ p.outer;
@@ -53,8 +53,8 @@ same_on {h} {h₁} {h₂} p q =
       aside = aside_on p.aside (subst (λ (c : Cell). Aside c.0 h₁.numbers.now h₂.numbers.now) p.outer q.aside);
     }
 
-pub cells_same : {h h' : Held} → SameCells h h' → h'.outer.0 ≡ h.outer.0
+pub cells_same : {h h' : HeldPlan} → SameCells h h' → h'.kept.outer.0 ≡ h.kept.outer.0
 cells_same p = ap (λ (c : Cell). c.0) p.outer
 
-pub stepped_on : {h h₁ h₂ : Held} {s : Model} (F : Model → Model) → Stepped h h₁ s → Stepped h₁ h₂ (F (model h₁)) → Stepped h h₂ (F s)
+pub stepped_on : {h h₁ h₂ : HeldPlan} {s : Model} (F : Model → Model) → Stepped h h₁ s → Stepped h₁ h₂ (F (model h₁)) → Stepped h h₂ (F s)
 stepped_on F p q = record { steps = q.steps ∙ ap F p.steps; same = same_on p.same q.same }

@@ -4,24 +4,24 @@ use Rattle.std.specs.Prelude.{ℕ, ◌≡◌, ◌⊎◌, List}
 use Rattle.plan.specs.Plan.{Plan, end, operator, token, block, bare}
 use Rattle.memory.specs.Lent.{Aside}
 use Rattle.memory.specs.Memory.{Holds, whole}
-use Rattle.memory.specs.declared.Held.{Held}
+use Rattle.memory.specs.declared.HeldPlan.{HeldPlan}
 
 -- the numbers lent, with the link that is kept beside them
-abbrev pub held_numbers : Held → List ℕ
-held_numbers h = whole h.outer.0 h.numbers.now h.first.0
+abbrev pub held_numbers : HeldPlan → List ℕ
+held_numbers h = whole h.kept.outer.0 h.numbers.now h.kept.first.0
 
 -- the cells are the same, and so is what is lent for them; past them the numbers are as they were
-pub record SameCells (h h' : Held) : Type 0 where
-  pub outer : h'.outer ≡ h.outer
+pub record SameCells (h h' : HeldPlan) : Type 0 where
+  pub outer : h'.kept.outer ≡ h.kept.outer
   pub lent : h'.numbers.ghost_name ≡ h.numbers.ghost_name
-  pub aside : Aside h.outer.0 h.numbers.now h'.numbers.now
+  pub aside : Aside h.kept.outer.0 h.numbers.now h'.numbers.now
 
 -- the memory holds the plan t
-abbrev pub HeldIn : (text : List ℕ) → Held → Plan ℕ → Type 0
-HeldIn text h t = Holds text h.outer.0 (held_numbers h) h.free.0 t
+abbrev pub HeldIn : (text : List ℕ) → HeldPlan → Plan ℕ → Type 0
+HeldIn text h t = Holds text h.kept.outer.0 (held_numbers h) h.kept.free.0 t
 
 -- the memory holds the plan, except for its cells
-pub record HeldAlike (text : List ℕ) (h : Held) (p : Plan ℕ) : Type 0 where
+pub record HeldAlike (text : List ℕ) (h : HeldPlan) (p : Plan ℕ) : Type 0 where
   pub plan : Plan ℕ
   pub alike : bare plan ≡ bare p
   pub held : HeldIn text h plan

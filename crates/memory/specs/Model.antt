@@ -8,7 +8,7 @@ use Rattle.pieces.specs.declared.Piece.TheVariants.{Operator, Token, Open, Close
 use Rattle.plan.specs.Reading.{Around}
 use Rattle.memory.specs.Held.{SameCells, held_numbers}
 use Rattle.memory.specs.Memory.{start, close, link, token_kind, block_kind, Building}
-use Rattle.memory.specs.declared.Held.{Held}
+use Rattle.memory.specs.declared.HeldPlan.{HeldPlan}
 
 pub record Model : Type 0 where
   pub numbers : List ℕ
@@ -16,8 +16,8 @@ pub record Model : Type 0 where
   pub opened : ℕ
   pub free : ℕ
 
-abbrev pub model : Held → Model
-model b = record { numbers = held_numbers b; tail = b.tail.0; opened = b.opened.0; free = b.free.0 }
+abbrev pub model : HeldPlan → Model
+model b = record { numbers = held_numbers b; tail = b.tail.0; opened = b.opened.0; free = b.kept.free.0 }
 
 -- the same with other numbers
 abbrev pub with_numbers : Model → List ℕ → Model
@@ -28,21 +28,21 @@ abbrev pub Built : (text : List ℕ) → (n : ℕ) → Model → (root : ℕ) �
 Built text n s root others out here = Building text n s.numbers root others s.tail s.opened s.free out here
 
 -- a step can be made: what is kept beside the numbers is within them
-pub record Buildable (b : Held) : Type 0 where
-  pub tail : b.tail.0 ≤ start b.outer.0
-  pub opened : b.opened.0 ≤ b.outer.0
+pub record Buildable (b : HeldPlan) : Type 0 where
+  pub tail : b.tail.0 ≤ start b.kept.outer.0
+  pub opened : b.opened.0 ≤ b.kept.outer.0
 
 -- one step: the model is s after it, and the cells are the same
-pub record Stepped (b b' : Held) (s : Model) : Type 0 where
+pub record Stepped (b b' : HeldPlan) (s : Model) : Type 0 where
   pub steps : model b' ≡ s
   pub same : SameCells b b'
 
 -- all cells are free, in order, and nothing is read yet
-pub record Fresh (b : Held) : Type 0 where
-  pub tail : b.tail.0 ≡ start b.outer.0
-  pub opened : b.opened.0 ≡ b.outer.0
-  pub free : b.free.0 ≡ 0
-  pub links : (i : ℕ) → i < b.outer.0 → link (held_numbers b) (start i) ≡ i + 1
+pub record Fresh (b : HeldPlan) : Type 0 where
+  pub tail : b.tail.0 ≡ start b.kept.outer.0
+  pub opened : b.opened.0 ≡ b.kept.outer.0
+  pub free : b.kept.free.0 ≡ 0
+  pub links : (i : ℕ) → i < b.kept.outer.0 → link (held_numbers b) (start i) ≡ i + 1
 
 -- the free cell behind the first one
 abbrev pub next_free : Model → ℕ
@@ -85,9 +85,9 @@ abbrev pub with_end : (n : ℕ) → Model → List ℕ
 with_end n s = set s.numbers (2 * s.tail + 1) (close n)
 
 -- the end: the whole plan
-pub record BuildEnded (b h : Held) : Type 0 where
-  pub ends : held_numbers h ≡ with_end b.outer.0 (model b)
-  pub free : h.free ≡ b.free
+pub record BuildEnded (b h : HeldPlan) : Type 0 where
+  pub ends : held_numbers h ≡ with_end b.kept.outer.0 (model b)
+  pub free : h.kept.free ≡ b.kept.free
   pub same : SameCells b h
 
 -- a piece, by what it is
@@ -104,14 +104,14 @@ FindsCell free opened n (Token t) = free < n
 FindsCell free opened n Open = free < n
 FindsCell free opened n Close = opened < n
 
-pub record PieceReady (b : Held) (k : Piece) : Type 0 where
+pub record PieceReady (b : HeldPlan) (k : Piece) : Type 0 where
   pub ready : Buildable b
-  pub finds : FindsCell b.free.0 b.opened.0 b.outer.0 k
+  pub finds : FindsCell b.kept.free.0 b.opened.0 b.kept.outer.0 k
 
 -- A block is begun in the first free cell, and no port links to it. What is put from then on is its inside.
-pub record Apart (h b : Held) : Type 0 where
-  pub opened : b.opened ≡ h.free
-  pub tail : b.tail.0 ≡ start h.free.0
-  pub free : b.free.0 ≡ link (held_numbers h) (start h.free.0)
-  pub numbers : held_numbers b ≡ set (held_numbers h) (2 * start h.free.0) block_kind
+pub record Apart (h b : HeldPlan) : Type 0 where
+  pub opened : b.opened ≡ h.kept.free
+  pub tail : b.tail.0 ≡ start h.kept.free.0
+  pub free : b.kept.free.0 ≡ link (held_numbers h) (start h.kept.free.0)
+  pub numbers : held_numbers b ≡ set (held_numbers h) (2 * start h.kept.free.0) block_kind
   pub same : SameCells h b

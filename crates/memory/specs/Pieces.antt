@@ -11,7 +11,7 @@ use Rattle.pieces.specs.declared.Piece.TheVariants.{Operator, Token, Open, Close
 use Rattle.memory.specs.Held.{HeldIn}
 use Rattle.memory.specs.Memory.{datum, token_at}
 use Rattle.memory.specs.Numbered.{kind_of}
-use Rattle.memory.specs.declared.Held.{Held}
+use Rattle.memory.specs.declared.HeldPlan.{HeldPlan}
 use Rattle.memory.specs.declared.Kind.{Kind}
 use Rattle.memory.specs.declared.Kind.TheVariants.{Operator as OPERATOR, Token as TOKEN, Block as BLOCK}
 
@@ -36,7 +36,7 @@ abbrev pub print_limit : ℕ
 print_limit = token_limit * cell_limit
 
 -- the memory holds a plan whose printed text ends at the place `room` or before it, if it begins at the place `from`
-pub record PrintsWithin (from room : ℕ) (text : List ℕ) (h : Held) : Type 0 where
+pub record PrintsWithin (from room : ℕ) (text : List ℕ) (h : HeldPlan) : Type 0 where
   pub plan : Plan ℕ
   pub held : HeldIn text h plan
   pub fits : from + length (print plan) ≤ room

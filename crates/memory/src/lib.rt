@@ -16,6 +16,8 @@ use plan::Operator;
 
 mod print;
 
+pub use print::piece_at;
+
 // A port of a cell: its start, or its close.
 #[derive(Clone, Copy, PartialEq, Eq)]
 pub struct Port(pub u32);
@@ -90,47 +92,69 @@ pub fn clear(memory: &mut [u32])
     memory.fill(0);
 }
 
-// A plan in the memory: the numbers lent, four for each cell, and as they were past the last; the cell that is not lent, whose inside is the
-// outermost sequence; the first port of that sequence, which is kept beside the numbers; and the first free cell. Where a sequence is built,
-// `tail` is its last port so far, and `opened` its innermost open block.
-#[derive(Drop)]
-pub struct Held<'a> {
-    pub numbers: &'a mut [u32],
-    pub outer: Cell,
-    pub first: Port,
-    pub tail: Port,
-    pub opened: Cell,
-    pub free: Cell,
-    pub ghost lent: { Lent outer.0 numbers.now },
+// The kind that the datum of a start says.
+pub fn kind_at(memory: &[u32], port: Port) -> Kind
+    requires { 2 * port.0 < length memory.now }
+    ensures { result ≡ kind_of (datum memory.now port.0) }
+{
+    Kind::from(memory[2 * port.0 as usize])
 }
 
-impl Held<'_> {
+// The token that starts at a port: its cell's second pair of numbers is its place and its length.
+pub fn token_at(memory: &[u32], port: Port) -> Token
+    requires { 2 * port.0 + cell_numbers ≤ length memory.now }
+    ensures { result ≡ token_at memory.now port.0 }
+{
+    let number = 2 * (port.0 as usize + 1);
+    Token {
+        at: Place(memory[number]),
+        len: memory[number + 1],
+    }
+}
+
+// What is kept beside the numbers of a plan in the memory: the cell that is not lent, whose inside is the outermost sequence; the first port of
+// that sequence; and the first free cell.
+#[derive(Clone, Copy, PartialEq, Eq)]
+pub struct Held {
+    pub outer: Cell,
+    pub first: Port,
+    pub free: Cell,
+}
+
+// A plan in the memory: the numbers lent, four for each cell, and as they were past the last; and what is kept beside them. Where a sequence is
+// built, `tail` is its last port so far, and `opened` its innermost open block.
+#[derive(Drop)]
+pub struct HeldPlan<'a> {
+    pub numbers: &'a mut [u32],
+    pub kept: Held,
+    pub tail: Port,
+    pub opened: Cell,
+    pub ghost lent: { Lent kept.outer.0 numbers.now },
+}
+
+impl HeldPlan<'_> {
     ghost use Rattle.memory.specs.Held.{held_numbers};
     ghost use Rattle.memory.specs.Model.{Stepped, model, with_numbers};
 
-    // The kind that the datum of a start says.
+    // The kind that the datum of a start says, as the numbers alone say it.
     pub fn kind_at(&self, port: Port) -> Kind
         requires { 2 * port.0 < length self.now.numbers.now }
         ensures { result ≡ kind_of (datum self.now.numbers.now port.0) }
     {
-        Kind::from(self.numbers[2 * port.0 as usize])
+        kind_at(self.numbers, port)
     }
 
-    // The token that starts at a port: its cell's second pair of numbers is its place and its length.
+    // The token that starts at a port, as the numbers alone say it.
     pub fn token_at(&self, port: Port) -> Token
         requires { 2 * port.0 + cell_numbers ≤ length self.now.numbers.now }
         ensures { result ≡ token_at self.now.numbers.now port.0 }
     {
-        let number = 2 * (port.0 as usize + 1);
-        Token {
-            at: Place(self.numbers[number]),
-            len: self.numbers[number + 1],
-        }
+        token_at(self.numbers, port)
     }
 
     // The number in the link of a port of a lent cell.
     fn link_number(&self, port: Port) -> u32
-        requires { port.0 < start self.now.outer.0 }
+        requires { port.0 < start self.now.kept.outer.0 }
         ensures { result ≡ link (held_numbers self.now) port.0 }
     {
         self.numbers[2 * port.0 as usize + 1]
@@ -138,7 +162,7 @@ impl Held<'_> {
 
     // Stores a number of a lent cell.
     pub fn set_number(&mut self, number: usize, value: u32)
-        requires { number < cell_numbers * self.old.outer.0 }
+        requires { number < cell_numbers * self.old.kept.outer.0 }
         ensures { Stepped self.old self.new (with_numbers (model self.old) (set (held_numbers self.old) number value)) }
     {
         self.numbers[number] = value;
@@ -146,22 +170,22 @@ impl Held<'_> {
 
     // Where the link of a port leads; that of the outermost start is kept beside the numbers.
     pub fn link_of(&self, port: Port) -> Port
-        requires { port.0 ≤ start self.now.outer.0 }
+        requires { port.0 ≤ start self.now.kept.outer.0 }
         ensures { result.0 ≡ link (held_numbers self.now) port.0 }
     {
-        if port == Port::start(self.outer) {
-            return self.first;
+        if port == Port::start(self.kept.outer) {
+            return self.kept.first;
         }
         Port(self.link_number(port))
     }
 
     // Lets a port link to another.
     pub fn set_link(&mut self, port: Port, to: Port)
-        requires { port.0 ≤ start self.old.outer.0 }
+        requires { port.0 ≤ start self.old.kept.outer.0 }
         ensures { Stepped self.old self.new (with_numbers (model self.old) (set (held_numbers self.old) (2 * port.0 + 1) to.0)) }
     {
-        if port == Port::start(self.outer) {
-            self.first = to;
+        if port == Port::start(self.kept.outer) {
+            self.kept.first = to;
         } else {
             self.set_number(2 * port.0 as usize + 1, to.0);
         }
@@ -170,14 +194,14 @@ impl Held<'_> {
     // The cell that a port keeps where its link leads nowhere. The start of a free cell keeps the next free one. The close
     // of an open block keeps the cell around it.
     pub fn kept_cell(&self, port: Port) -> Cell
-        requires { port.0 < start self.now.outer.0 }
+        requires { port.0 < start self.now.kept.outer.0 }
         ensures { result.0 ≡ link (held_numbers self.now) port.0 }
     {
         Cell(self.link_number(port))
     }
 
     pub fn keep_cell(&mut self, port: Port, cell: Cell)
-        requires { port.0 < start self.old.outer.0 }
+        requires { port.0 < start self.old.kept.outer.0 }
         ensures { Stepped self.old self.new (with_numbers (model self.old) (set (held_numbers self.old) (2 * port.0 + 1) cell.0)) }
     {
         self.set_number(2 * port.0 as usize + 1, cell.0);

@@ -8,7 +8,7 @@ ghost use Rattle.memory.specs.Memory.{start};
 ghost use Rattle.ready.specs.Ready.{block_opens, end_port, ready_at};
 
 use kinds::Cell;
-use memory::{Held, Kind, Port};
+use memory::{HeldPlan, Kind, Port};
 use plan::Operator;
 use rules::takes;
 
@@ -61,14 +61,14 @@ pub fn end_port(kind: Kind, at: Port) -> Port
 }
 
 // Whether a block opens at a port; the outermost sequence opens at the start of the cell that is not lent.
-pub fn block_opens(held: &Held, port: Port) -> bool
-    requires { port.0 ≤ start held.now.outer.0 }
+pub fn block_opens(held: &HeldPlan, port: Port) -> bool
+    requires { port.0 ≤ start held.now.kept.outer.0 }
     ensures { result ≡ block_opens (held_numbers held.now) port.0 }
 {
     if port.closes() {
         return false;
     }
-    if port == Port::start(held.outer) {
+    if port == Port::start(held.kept.outer) {
         return true;
     }
     matches!(held.kind_at(port), Kind::Block)

@@ -11,7 +11,7 @@ use Rattle.plan.specs.declared.Operator.TheVariants.{A as op_a, B as op_b, C as 
 use Rattle.plan.proofs.Plans.{then_assoc}
 use Rattle.memory.specs.Held.{HeldIn, HeldAlike, held_numbers}
 use Rattle.memory.specs.Memory.{Below, Holds}
-use Rattle.memory.specs.declared.Held.{Held}
+use Rattle.memory.specs.declared.HeldPlan.{HeldPlan}
 use Rattle.memory.proofs.Lists.{below_split}
 use Rattle.hunt.specs.Hunting.{RuleAt}
 use Rattle.ready.specs.declared.Spot.{Spot}
@@ -38,7 +38,7 @@ module _ (text : List ℕ) (n : ℕ) (w : List ℕ) (free : ℕ) (f : Frame ℕ)
       let all = subst (λ l. Below n l) (g.used (operator k o end)) (said_below (held_said there)).0 in
       (below_split n g.labels_before (k ∷ g.labels_behind) all).1.0
 
-module _ {text : List ℕ} {h : Held} {spot : Spot} {f : Frame ℕ} {q q' : Plan ℕ} (r : Rewrites text h spot f q q') where
+module _ {text : List ℕ} {h : HeldPlan} {spot : Spot} {f : Frame ℕ} {q q' : Plan ℕ} (r : Rewrites text h spot f q q') where
   abbrev X : Plan ℕ
   X = r.stands.front
 
@@ -53,29 +53,29 @@ module _ {text : List ℕ} {h : Held} {spot : Spot} {f : Frame ℕ} {q q' : Plan
   unfolding before
   here k = subst (λ x. HeldIn text h (plug f x)) (k.is ∙ sym (then_assoc X _ _)) r.held
 
-  pub newer_lent : spot.newer.0 < h.outer.0
+  pub newer_lent : spot.newer.0 < h.kept.outer.0
   newer_lent =
       let k = r.stands.rule in
-      newer_low text h.outer.0 (held_numbers h) h.free.0 f (before k) spot.newer.0 k.newer spot.operator.0 spot.which p (here k)
+      newer_low text h.kept.outer.0 (held_numbers h) h.kept.free.0 f (before k) spot.newer.0 k.newer spot.operator.0 spot.which p (here k)
 
-  pub operator_lent : spot.operator.0 < h.outer.0
+  pub operator_lent : spot.operator.0 < h.kept.outer.0
   operator_lent =
       let k = r.stands.rule in
-      operator_low text h.outer.0 (held_numbers h) h.free.0 f (before k) spot.newer.0 k.newer spot.operator.0 spot.which p (here k)
+      operator_low text h.kept.outer.0 (held_numbers h) h.kept.free.0 f (before k) spot.newer.0 k.newer spot.operator.0 spot.which p (here k)
 
   -- once the operator is out, what its rule asks for is there, and what the rule makes of it is the rewrite
-  module _ {h₁ : Held} (s : OperatorOut h h₁ spot.newer.0 spot.operator.0) where
+  module _ {h₁ : HeldPlan} (s : OperatorOut h h₁ spot.newer.0 spot.operator.0) where
     out : {o : Operator} (k : RuleAt spot o X p q q') → HeldIn text h₁ (plug f (X then (lead o spot.older.0 k.older then block spot.newer.0 k.newer p)))
     unfolding before
     out {o} k =
         subst (λ x. HeldIn text h₁ (plug f x)) (then_assoc X _ _)
-        (held_after s (operator_out h.outer.0 f (before k) spot.newer.0 k.newer spot.operator.0 o p (here k)))
+        (held_after s (operator_out h.kept.outer.0 f (before k) spot.newer.0 k.newer spot.operator.0 o p (here k)))
 
-    still : spot.before.0 ≡ at_end h₁.outer.0 f X
+    still : spot.before.0 ≡ at_end h₁.kept.outer.0 f X
     still = r.stands.before ∙ ap (λ n. at_end n f X) (sym (same-cells s))
 
-    room : {x : Plan ℕ} → q' ≡ x → cells (plug f x) ≤ h₁.outer.0
-    room gives = subst (λ x. cells (plug f x) ≤ h₁.outer.0) gives (let fits = r.room in let e = same-cells s in omega arith)
+    room : {x : Plan ℕ} → q' ≡ x → cells (plug f x) ≤ h₁.kept.outer.0
+    room gives = subst (λ x. cells (plug f x) ≤ h₁.kept.outer.0) gives (let fits = r.room in let e = same-cells s in omega arith)
 
     finds_two : (B A : Plan ℕ) → HeldIn text h₁ (plug f (X then block spot.older.0 B (block spot.newer.0 A p)))
         → TwoBlocks h₁ spot.before.0 spot.older.0 spot.newer.0
@@ -102,7 +102,7 @@ module _ {text : List ℕ} {h : Held} {spot : Spot} {f : Frame ℕ} {q q' : Plan
         let k = stands_rule r.stands is in
         record { text = text; frame = f; front = X; contents = k.newer; behind = p; at = still; held = out k }
 
-    module _ {h' : Held} where
+    module _ {h' : HeldPlan} where
       exactly : {x : Plan ℕ} → q' ≡ x → HeldIn text h' (plug f x) → HeldAlike text h' (plug f q')
       exactly {x} e held = record { plan = plug f x; alike = ap (λ y. bare (plug f y)) (sym e); held = held }
 

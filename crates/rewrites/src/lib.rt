@@ -8,13 +8,13 @@ ghost use Rattle.rewrites.specs.Rules.{DropBlock, OneBlock, Rewritable, RewriteM
 
 use blocks::{free_block, last_port};
 use copier::copy_block;
-use memory::{Held, Port};
+use memory::{HeldPlan, Port};
 use plan::Operator;
 use ready::Spot;
 use splices::{cut, move_block, put_in, remove_operator, unwrap};
 
 // The rule of a, once its operator is out. The older block goes behind the contents of the newer one, and the newer one is opened.
-fn rule_a(held: &mut Held, spot: Spot)
+fn rule_a(held: &mut HeldPlan, spot: Spot)
     requires { TwoBlocks held.old spot.before.0 spot.older.0 spot.newer.0 }
     ensures changed { RuleA held.old held.new spot.before.0 spot.older.0 spot.newer.0 }
     ensures same { SameCells held.old held.new }
@@ -25,7 +25,7 @@ fn rule_a(held: &mut Held, spot: Spot)
 }
 
 // The rule of b, once its operator is out. The older block goes before the contents of the newer one.
-fn rule_b(held: &mut Held, spot: Spot)
+fn rule_b(held: &mut HeldPlan, spot: Spot)
     requires { TwoBlocks held.old spot.before.0 spot.older.0 spot.newer.0 }
     ensures changed { RuleB held.old held.new spot.before.0 spot.older.0 spot.newer.0 }
     ensures same { SameCells held.old held.new }
@@ -34,7 +34,7 @@ fn rule_b(held: &mut Held, spot: Spot)
 }
 
 // The rule of c, once its operator is out. A copy of the block goes behind it.
-fn rule_c(text: &[u8], held: &mut Held, spot: Spot)
+fn rule_c(text: &[u8], held: &mut HeldPlan, spot: Spot)
     requires { OneBlock text.now held.old spot.newer.0 }
     ensures changed { RuleC text.now held.old held.new spot.newer.0 }
     ensures same { SameCells held.old held.new }
@@ -49,7 +49,7 @@ fn rule_c(text: &[u8], held: &mut Held, spot: Spot)
 }
 
 // The rule of d, once its operator is out. The block leaves the plan, and its cells are free.
-fn rule_d(held: &mut Held, spot: Spot)
+fn rule_d(held: &mut HeldPlan, spot: Spot)
     requires { DropBlock held.old spot.before.0 spot.newer.0 }
     ensures changed { RuleD held.old held.new spot.before.0 spot.newer.0 }
     ensures same { SameCells held.old held.new }
@@ -59,7 +59,7 @@ fn rule_d(held: &mut Held, spot: Spot)
 }
 
 // Makes the rewrite of a ready operator: the memory then holds what the rule gives.
-pub fn rewrite(text: &[u8], held: &mut Held, spot: Spot)
+pub fn rewrite(text: &[u8], held: &mut HeldPlan, spot: Spot)
     requires { Rewritable text.now held.old spot }
     ensures rewritten { RewriteMade text.now held.old spot held.new }
     ensures same { SameCells held.old held.new }

@@ -31,7 +31,7 @@ use Rattle.kinds.specs.Written.{put_at}
 use Rattle.kinds.proofs.Putting.{put_front}
 use Rattle.memory.specs.Held.{HeldIn, HeldAlike}
 use Rattle.memory.specs.Pieces.{PrintsWithin, print_limit}
-use Rattle.memory.specs.declared.Held.{Held}
+use Rattle.memory.specs.declared.HeldPlan.{HeldPlan}
 use Rattle.engine.specs.Running.{RanAs, RunMade, Runnable, Sized}
 use Rattle.engine.specs.declared.Ended.{Ended}
 use Rattle.run.specs.Calls.{Runs}
@@ -39,7 +39,7 @@ use Rattle.run.specs.Writing.{EndWritten, Printable, TextAccepted}
 
 -- printing
 
-module _ {text : List ℕ} {h : Held} {e : Ended} (k : Printable text h e) where
+module _ {text : List ℕ} {h : HeldPlan} {e : Ended} (k : Printable text h e) where
   pub prints_at_most : PrintsWithin 0 print_limit text h
   prints_at_most = record { plan = k.plan; held = k.sized.held; fits = omega (arith, k.fits) }
 
@@ -48,7 +48,7 @@ module _ {text : List ℕ} {h : Held} {e : Ended} (k : Printable text h e) where
     pub prints_in : long ≤ length out → PrintsWithin 0 (length out) text h
     prints_in l = record { plan = k.plan; held = k.sized.held; fits = let size = is k.plan k.sized.held in omega arith }
 
-module _ {text : List ℕ} {h : Held} (e : Ended) {long : ℕ} (is : (t : Plan ℕ) → HeldIn text h t → long ≡ length (print t)) (out : List ℕ) where
+module _ {text : List ℕ} {h : HeldPlan} (e : Ended) {long : ℕ} (is : (t : Plan ℕ) → HeldIn text h t → long ≡ length (print t)) (out : List ℕ) where
   pub writes_short : length out < long → EndWritten text h e out (Err (OutShort long)) out
   unfolding as_run
   writes_short l t s =
@@ -89,8 +89,8 @@ module _ {text m : List ℕ} (outer : Cell) {size : ℕ} (k : TextAccepted text 
   n = outer.0
 
   -- what `build_plan` built
-  module _ (h : Held) (built : (p : Plan ℕ) → read token_limit n text ≡ ACCEPTED p → HeldAlike text h p) (kept : h.outer ≡ outer) where
-    cell : h.outer.0 ≡ n
+  module _ (h : HeldPlan) (built : (p : Plan ℕ) → read token_limit n text ≡ ACCEPTED p → HeldAlike text h p) (kept : h.kept.outer ≡ outer) where
+    cell : h.kept.outer.0 ≡ n
     cell = ap (λ (c : Cell). c.0) kept
 
     plan₁ : Plan ℕ
@@ -106,8 +106,8 @@ module _ {text m : List ℕ} (outer : Cell) {size : ℕ} (k : TextAccepted text 
     built_runnable = record { plan = plan₁; sized = sized₁ }
 
     -- what the run left
-    module _ (quota : ℕ) (h' : Held) (e : Ended) (made : RunMade text h size quota h' e) where
-      end_plan : RanAs text h.outer.0 quota plan₁ h' e
+    module _ (quota : ℕ) (h' : HeldPlan) (e : Ended) (made : RunMade text h size quota h' e) where
+      end_plan : RanAs text h.kept.outer.0 quota plan₁ h' e
       end_plan = made plan₁ sized₁
 
       the_run : SameRun n quota k.plan e end_plan.plan
@@ -115,7 +115,7 @@ module _ {text m : List ℕ} (outer : Cell) {size : ℕ} (k : TextAccepted text 
       the_run =
           same_run n quota k.plan e end_plan.plan
           (subst (λ c. run_plan c quota (bare k.plan) ≡ RAN e.ending e.steps (bare end_plan.plan)) cell
-          (subst (λ x. run_plan h.outer.0 quota x ≡ RAN e.ending e.steps (bare end_plan.plan)) (built k.plan k.reads).alike end_plan.runs))
+          (subst (λ x. run_plan h.kept.outer.0 quota x ≡ RAN e.ending e.steps (bare end_plan.plan)) (built k.plan k.reads).alike end_plan.runs))
 
       printed-same : print the_run.read_plan ≡ print end_plan.plan
       printed-same = sym (print-relabel (λ l. tt) the_run.read_plan) ∙ ap print the_run.alike ∙ print-relabel (λ l. tt) end_plan.plan

@@ -15,12 +15,17 @@ use answers::{Ran, RunRefusal};
 use engine::Ended;
 use kinds::{Cell, Place};
 use loader::build_plan;
-use memory::{Held, clear};
+use memory::{HeldPlan, clear};
 use plan::{TextFault, Unread};
 use read::accept;
 
 // The answer of a run that ended, and its printed text in the output; or 18, and the output as it was.
-fn print_plan(text: &[u8], held: &Held, ended: Ended, output: &mut [u8]) -> Result<Ran, RunRefusal>
+fn print_plan(
+    text: &[u8],
+    held: &HeldPlan,
+    ended: Ended,
+    output: &mut [u8],
+) -> Result<Ran, RunRefusal>
     requires { Printable text.now held.now ended }
     ensures { EndWritten text.now held.now ended output.old result output.new }
 {

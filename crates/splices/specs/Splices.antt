@@ -3,7 +3,7 @@
 use Rattle.std.specs.Prelude.{ℕ, ◌+◌, ◌*◌, ◌≡◌, List, set}
 use Rattle.memory.specs.Held.{SameCells, held_numbers}
 use Rattle.memory.specs.Memory.{start, close, link}
-use Rattle.memory.specs.declared.Held.{Held}
+use Rattle.memory.specs.declared.HeldPlan.{HeldPlan}
 
 -- the port `after` links to what stands behind `last`
 unfoldable pub cut : List ℕ → (after last : ℕ) → List ℕ
@@ -27,15 +27,15 @@ unfoldable pub unwrapped : List ℕ → (free before c last : ℕ) → List ℕ
 unwrapped w free before c last = released (cut (cut w last (close c)) before (start c)) free c
 
 -- afterwards the memory, with what is kept beside it, is v, and `spare` is the first free cell
-pub record Spliced (h h' : Held) (v : List ℕ) (spare : ℕ) : Type 0 where
+pub record Spliced (h h' : HeldPlan) (v : List ℕ) (spare : ℕ) : Type 0 where
   pub numbers : held_numbers h' ≡ v
-  pub free : h'.free.0 ≡ spare
+  pub free : h'.kept.free.0 ≡ spare
   pub same : SameCells h h'
 
 -- the operator behind the block at the cell `newer` is out of the chain, and its cell is the first free one
-abbrev pub OperatorOut : Held → Held → (newer operator : ℕ) → Type 0
-OperatorOut h h' newer operator = Spliced h h' (released (cut (held_numbers h) (close newer) (start operator)) h.free.0 operator) operator
+abbrev pub OperatorOut : HeldPlan → HeldPlan → (newer operator : ℕ) → Type 0
+OperatorOut h h' newer operator = Spliced h h' (released (cut (held_numbers h) (close newer) (start operator)) h.kept.free.0 operator) operator
 
 -- the contents of the block at the cell c stand in its place, and its cell is the first free one
-abbrev pub BlockOpened : Held → Held → (before c last : ℕ) → Type 0
-BlockOpened h h' before c last = Spliced h h' (unwrapped (held_numbers h) h.free.0 before c last) c
+abbrev pub BlockOpened : HeldPlan → HeldPlan → (before c last : ℕ) → Type 0
+BlockOpened h h' before c last = Spliced h h' (unwrapped (held_numbers h) h.kept.free.0 before c last) c

@@ -9,4 +9,4 @@ abbrev pub invariant-loop-end : goal.invariant-loop-end
 invariant-loop-end l = Counting l.held l.end.0 l.initial.port.0 l.port.0 l.count
 
 abbrev pub decreases-loop-end : goal.decreases-loop-end
-decreases-loop-end l = length (ahead (held_numbers l.held) l.held.outer.0 l.end.0 l.port.0)
+decreases-loop-end l = length (ahead (held_numbers l.held) l.held.kept.outer.0 l.end.0 l.port.0)

@@ -9,4 +9,4 @@ abbrev pub invariant-loop-end : goal.invariant-loop-end
 invariant-loop-end l = Dropping l.initial.held l.end.0 l.initial.at.0 l.held l.at.0
 
 abbrev pub decreases-loop-end : goal.decreases-loop-end
-decreases-loop-end l = length (ahead (held_numbers l.held) l.initial.held.outer.0 l.end.0 l.at.0)
+decreases-loop-end l = length (ahead (held_numbers l.held) l.initial.held.kept.outer.0 l.end.0 l.at.0)

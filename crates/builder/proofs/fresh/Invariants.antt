@@ -7,5 +7,5 @@ use Rattle.builder.proofs.fresh.Given as goal
 abbrev pub invariant-loop-number : goal.invariant-loop-number
 invariant-loop-number l =
     SameCells l.initial.held l.held × (l.held.tail ≡ l.initial.held.tail) × (l.held.opened ≡ l.initial.held.opened)
-    × (l.held.free ≡ l.initial.held.free)
+    × (l.held.kept.free ≡ l.initial.held.kept.free)
     × ((i : ℕ) → i < l.number → link (held_numbers l.held) (start i) ≡ i + 1)

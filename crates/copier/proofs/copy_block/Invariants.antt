@@ -10,4 +10,4 @@ abbrev pub invariant-loop-end : goal.invariant-loop-end
 invariant-loop-end l = CopyLoop l.text l.fn.held l.copy l.initial.held l.end.0 l.initial.port.0 l.held l.port.0
 
 abbrev pub decreases-loop-end : goal.decreases-loop-end
-decreases-loop-end l = length (along (held_numbers l.initial.held) l.end.0 (2 * l.fn.held.outer.0) l.port.0)
+decreases-loop-end l = length (along (held_numbers l.initial.held) l.end.0 (2 * l.fn.held.kept.outer.0) l.port.0)

@@ -6,7 +6,7 @@ use Rattle.hunt.proofs.Scanning.{Scanning}
 use Rattle.hunt.proofs.scan.Given as goal
 
 abbrev pub invariant-loop-end : goal.invariant-loop-end
-invariant-loop-end l = Scanning l.text l.held.numbers.now l.held.outer.0 l.held.first.0 l.end.0 l.last.0 l.second.0 l.third.0 l.at.0
+invariant-loop-end l = Scanning l.text l.held.numbers.now l.held.kept.outer.0 l.held.kept.first.0 l.end.0 l.last.0 l.second.0 l.third.0 l.at.0
 
 abbrev pub decreases-loop-end : goal.decreases-loop-end
-decreases-loop-end l = length (ahead (held_numbers l.held) l.held.outer.0 l.end.0 l.at.0)
+decreases-loop-end l = length (ahead (held_numbers l.held) l.held.kept.outer.0 l.end.0 l.at.0)

@@ -8,7 +8,7 @@ use Rattle.ready.proofs.block_opens.Goals as goal
 pub returns-then-closes : goal.returns-then-closes
 returns-then-closes c =
     let h = c.args.held.now in
-    close-block_opens h.outer.0 h.numbers.now h.first.0 c.args.port.0 (sym c.closes.ensures ∙ c.if-closes.true)
+    close-block_opens h.kept.outer.0 h.numbers.now h.kept.first.0 c.args.port.0 (sym c.closes.ensures ∙ c.if-closes.true)
 
 pub returns-then-eq : goal.returns-then-eq
 returns-then-eq c =

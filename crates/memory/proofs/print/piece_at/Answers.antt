@@ -1,7 +1,7 @@
 -- `piece_at`: the port's parity and its cell's kind say which case of the definition it is.
 use Rattle.std.proofs.Common.{rules}
 use Rattle.memory.proofs.Pieces.{close-piece, open_piece, operator_piece, token_piece}
-use Rattle.memory.proofs.Held.piece_at.Goals as goal
+use Rattle.memory.proofs.print.piece_at.Goals as goal
 
 pub returns-then-closes : goal.returns-then-closes
 returns-then-closes c = search (rules, close-piece)

@@ -2,7 +2,7 @@ use Rattle.std.proofs.Common.{rules}
 use Rattle.memory.proofs.Compared.{apart, met}
 use Rattle.memory.proofs.Putting.{put_first, put_fits, put_on, put_last}
 use Rattle.memory.proofs.PrintWalk.{walk_lent, walk_below, walk_less, walk_in_text}
-use Rattle.memory.proofs.Held.print_into.Goals as goal
+use Rattle.memory.proofs.HeldPlan.print_into.Goals as goal
 
 pub loop-end-init : goal.loop-end-init
 loop-end-init c = search (rules, put_first)

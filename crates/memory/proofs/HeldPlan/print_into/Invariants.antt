@@ -3,10 +3,10 @@
 use Rattle.std.proofs.Common.{length}
 use Rattle.memory.proofs.PrintWalk.{ahead}
 use Rattle.memory.proofs.Putting.{Putting}
-use Rattle.memory.proofs.Held.print_into.Given as goal
+use Rattle.memory.proofs.HeldPlan.print_into.Given as goal
 
 abbrev pub invariant-loop-end : goal.invariant-loop-end
-invariant-loop-end l = Putting l.text l.self.numbers.now l.initial.out l.from l.out l.self.outer.0 l.self.first.0 l.port.0 l.put
+invariant-loop-end l = Putting l.text l.self.numbers.now l.initial.out l.from l.out l.self.kept.outer.0 l.self.kept.first.0 l.port.0 l.put
 
 abbrev pub decreases-loop-end : goal.decreases-loop-end
-decreases-loop-end l = length (ahead l.self.numbers.now l.self.outer.0 l.self.first.0 l.port.0)
+decreases-loop-end l = length (ahead l.self.numbers.now l.self.kept.outer.0 l.self.kept.first.0 l.port.0)

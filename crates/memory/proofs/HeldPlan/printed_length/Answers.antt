@@ -1,7 +1,7 @@
 use Rattle.std.proofs.Common.{rules, arith}
 use Rattle.memory.proofs.Compared.{apart, met}
 use Rattle.memory.proofs.PrintWalk.{walk_first, walk_lent, walk_below, walk_less, walk_fits, walk_on, walk_end}
-use Rattle.memory.proofs.Held.printed_length.Goals as goal
+use Rattle.memory.proofs.HeldPlan.printed_length.Goals as goal
 
 pub loop-end-init : goal.loop-end-init
 loop-end-init c = search (rules, walk_first)
