@@ -63,14 +63,14 @@ module _ (list : List ℕ) (words : List WordAt) (rank : ℕ) (w : WordAt) (room
 
 -- What the loop knows: the words found so far, and that the rest of the list decides.
 pub record ShelvedSoFar (list : List ℕ) (words : List WordAt) (count rank at : ℕ) : Type 0 where
-  pub long : length words ≡ word_limit
+  pub long : word_limit ≤ length words
   pub within : at ≤ length list
   pub decides : fitting standard count [] (drop 4 list) ≡ fitting standard (count - rank) (words_to list words rank) (drop at list)
   pub shelved : Shelved list words rank
   pub own : OwnNames list words rank
 
 -- before any word
-pub shelve_first : (list : List ℕ) (words : List WordAt) (count : ℕ) → length words ≡ word_limit → 4 ≤ length list → ShelvedSoFar list words count 0 4
+pub shelve_first : (list : List ℕ) (words : List WordAt) (count : ℕ) → word_limit ≤ length words → 4 ≤ length list → ShelvedSoFar list words count 0 4
 unfolding words_to
 shelve_first list words count long there =
     record {
@@ -108,7 +108,7 @@ module _ {list : List ℕ} {words : List WordAt} {count rank at : ℕ} (inv : Sh
       let fit = fit_word older (word_in list w) f.fit in
       let less : count - rank - 1 ≡ count - (rank + 1) = omega arith in
       record {
-        long = length-set words rank w ∙ inv.long;
+        long = omega (arith, length-set words rank w, inv.long);
         within = omega (arith, f.stand.within₂);
         decides =
             inv.decides ∙ goes_on standard older (count - rank) (drop at list) (omega arith) f.there f.fit

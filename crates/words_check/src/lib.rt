@@ -20,7 +20,7 @@ use plan::Character;
 use read::is_acceptable;
 use stored::{NUMBER, number_at, part, two_counted_at};
 use words_meaning::{LinkRefusal, MOST, NAME_LIMIT};
-use words_shelf::{Shelf, WordAt, Words};
+use words_shelf::{Shelf, WordAt};
 
 // How many words fit by themselves, and whether they are all, with no byte behind them.
 #[derive(Clone, Copy)]
@@ -79,11 +79,14 @@ fn check_word(shelf: &Shelf, at: usize) -> Option<WordAt>
 }
 
 // Finds where the words of a list stand, up to the first that does not fit.
-fn shelve(list: &[u8], words: &mut Words, count: usize) -> FitWords
-    requires { (count ≤ word_limit) × (4 ≤ length list.now) }
+fn shelve(list: &[u8], words: &mut [WordAt], count: usize) -> FitWords
+    requires few { count ≤ word_limit }
+    requires counted { 4 ≤ length list.now }
+    requires room { word_limit ≤ length words.old }
     ensures told { fitting standard count [] (drop 4 list.now) ≡ fit_words_told list.now words.new result }
     ensures shelved { Shelved list.now words.new result.fit × (result.fit ≤ word_limit) }
     ensures own_names { OwnNames list.now words.new result.fit }
+    ensures as_long { length words.new ≡ length words.old }
 {
     let mut at = NUMBER;
     for rank in 0..count {
@@ -144,9 +147,11 @@ fn earliest(shelf: &Shelf) -> usize
 }
 
 // Judges a list, and finds where its words stand.
-pub fn check_list<'a>(list: &'a [u8], words: &'a mut Words) -> Result<Shelf<'a>, LinkRefusal>
+pub fn check_list<'a>(list: &'a [u8], words: &'a mut [WordAt]) -> Result<Shelf<'a>, LinkRefusal>
+    requires { word_limit ≤ length words.old }
     ensures told { MatchResult result (λ s. stock standard list.now ≡ WORDS (words_to s.list.now s.words.now s.below)) (λ r. (rank : ℕ) × (r ≡ BadWords rank) × (stock standard list.now ≡ LIST_FAULT rank)) }
     ensures own_list { IfOk result (λ s. s.list.now ≡ list.now) }
+    ensures few { IfOk result (λ s. s.below ≤ word_limit) }
 {
     let Some(count) = number_at(list, 0) else {
         return Err(LinkRefusal::BadWords(0));

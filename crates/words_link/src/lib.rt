@@ -3,6 +3,8 @@
 // large it is, and this stands on the stack.
 #![tactic(auto)]
 
+ghost use Rattle.std.specs.Prelude.{◌≤◌};
+ghost use Rattle.words_meaning.specs.Stock.{word_limit};
 ghost use Rattle.words_shelf.specs.Shelf.{Readable};
 ghost use Rattle.words_link.specs.Calls.{Links};
 ghost use Rattle.words_link.specs.Parts.{WroteLinked};
@@ -18,7 +20,8 @@ use words_write::write;
 
 // Links a text that reads: it is measured first, so that nothing is written unless all of it is.
 fn link_readable(shelf: &Shelf, text: &[u8], output: &mut [u8]) -> Result<Size, LinkRefusal>
-    requires { Readable text.now }
+    requires few { shelf.now.below ≤ word_limit }
+    requires reads { Readable text.now }
     ensures { WroteLinked shelf.now.list.now shelf.now.words.now shelf.now.below text.now output.old result output.new }
 {
     let mut sizes: Sizes = [None; MOST];

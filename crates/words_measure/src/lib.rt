@@ -3,7 +3,7 @@
 // uses the one before it twice is soon measured.
 #![tactic(auto)]
 
-ghost use Rattle.std.specs.Prelude.{◌≡◌, ℕ, ◌<◌, List, [], ◌∷◌};
+ghost use Rattle.std.specs.Prelude.{◌≡◌, ℕ, ◌<◌, ◌≤◌, List, [], ◌∷◌, length};
 ghost use Rattle.plan.specs.Pieces.{Piece as PlanPiece};
 ghost use Rattle.pieces.specs.Written.{Is};
 ghost use Rattle.words_shelf.specs.Shelf.{Readable, linked_text, linked_word};
@@ -56,10 +56,13 @@ fn size_of(piece: Piece) -> Size
 
 // The size of a word's linked plan: as it is remembered, or else measured now by the words before it, and remembered.
 #[cycle(measure_measure_word)]
-fn measure_word(shelf: &Shelf, word: usize, sizes: &mut Sizes) -> Size
-    requires { (word < shelf.now.below) × SizesKnown shelf.now.list.now shelf.now.words.now sizes.old }
+fn measure_word(shelf: &Shelf, word: usize, sizes: &mut [Option<Size>]) -> Size
+    requires below { word < shelf.now.below }
+    requires known { SizesKnown shelf.now.list.now shelf.now.words.now sizes.old }
+    requires long { shelf.now.below ≤ length sizes.old }
     ensures told { result ≡ size (linked_word shelf.now.list.now shelf.now.words.now word) }
     ensures known { SizesKnown shelf.now.list.now shelf.now.words.now sizes.new }
+    ensures as_long { length sizes.new ≡ length sizes.old }
 {
     if let Some(size) = sizes[word] {
         return size;
@@ -71,10 +74,13 @@ fn measure_word(shelf: &Shelf, word: usize, sizes: &mut Sizes) -> Size
 
 // Measures a text's plan, linked by the words of a shelf. A word that it uses is measured in the same way: its rank is smaller, so this ends.
 #[cycle(measure_measure_word)]
-pub fn measure(shelf: &Shelf, text: &[u8], sizes: &mut Sizes) -> Size
-    requires { Readable text.now × SizesKnown shelf.now.list.now shelf.now.words.now sizes.old }
+pub fn measure(shelf: &Shelf, text: &[u8], sizes: &mut [Option<Size>]) -> Size
+    requires reads { Readable text.now }
+    requires known { SizesKnown shelf.now.list.now shelf.now.words.now sizes.old }
+    requires long { shelf.now.below ≤ length sizes.old }
     ensures told { result ≡ size (linked_text shelf.now.list.now shelf.now.words.now shelf.now.below text.now) }
     ensures known { SizesKnown shelf.now.list.now shelf.now.words.now sizes.new }
+    ensures as_long { length sizes.new ≡ length sizes.old }
 {
     let mut sum = Size {
         cells: 0,

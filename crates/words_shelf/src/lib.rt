@@ -1,8 +1,7 @@
 // Where the names and the texts of a list's words stand, and which word a token names. A word is known by its rank.
 #![tactic(auto)]
 
-ghost use Rattle.std.specs.Prelude.{◌≡◌, ◌≤◌, ◌<◌};
-ghost use Rattle.words_meaning.specs.Stock.{word_limit};
+ghost use Rattle.std.specs.Prelude.{◌≡◌, ◌≤◌, ◌<◌, length};
 ghost use Rattle.words_shelf.specs.Words.{Shelved};
 
 use kinds::Token;
@@ -30,9 +29,9 @@ pub const NO_WORD: WordAt = WordAt {
 #[derive(Clone, Copy)]
 pub struct Shelf<'a> {
     pub list: &'a [u8],
-    pub words: &'a Words,
+    pub words: &'a [WordAt],
     pub below: usize,
-    pub ghost few: { below ≤ word_limit },
+    pub ghost few: { below ≤ length words.now },
     pub ghost shelved: { Shelved list.now words.now below },
 }
 
@@ -101,7 +100,8 @@ impl<'a> Shelf<'a> {
         self.find(&text[at + 2..at + len - 1])
     }
 
-    // Which of the words a piece of the text names: only a token names any.
+    // Which of the words a piece of the text names: only a token names any. Most pieces are none, so the question is asked where the walk is.
+    #[inline(always)]
     pub fn find_piece(&self, text: &[u8], piece: Piece) -> Option<usize>
         requires { PieceStands text.now piece }
         ensures { (x : PlanPiece ℕ) → Is text.now piece x → result ≡ seek_piece self.now.list.now self.now.words.now self.now.below x }

@@ -55,7 +55,15 @@ module _ {list : List ℕ} {words : List WordAt} {n rank : ℕ} {sizes : List (O
   -- its text can be written by the words before it
   pub text_writable : Shelved list words n → Writable list words rank (word_of list words rank).text sizes places out put
   unfolding linked_word
-  text_writable s = record { reads = word_reads list words s rank can.below; known = can.known; placed = can.placed; room = can.room }
+  text_writable s =
+      record {
+        reads = word_reads list words s rank can.below;
+        known = can.known;
+        sizes_long = omega (arith, can.below, can.sizes_long);
+        placed = can.placed;
+        places_long = omega (arith, can.below, can.places_long);
+        room = can.room;
+      }
 
   -- its place is remembered
   pub word_placed : (places' : List (Option Span)) {out' : List ℕ} {end : ℕ} → end ≡ put + length (print (linked_word list words rank))

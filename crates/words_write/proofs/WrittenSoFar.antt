@@ -32,7 +32,9 @@ pub record WrittenSoFar (list : List ℕ) (words : List WordAt) (text : List ℕ
   pub end_is : end ≡ put + length (in_a_row gone)
   pub holds : out ≡ put_at out₀ put (in_a_row gone)
   pub known : SizesKnown list words sizes
+  pub sizes_long : n ≤ length sizes
   pub placed : WordsPlaced list words places out end
+  pub places_long : n ≤ length places
   pub room : put + length (print (linked_text list words n text)) ≤ length out₀
 
 pub written_first : {list : List ℕ} {words : List WordAt} {n : ℕ} {text : List ℕ} {sizes : List (Option Size)} {places : List (Option Span)} {out : List ℕ} {put : ℕ}
@@ -45,7 +47,9 @@ written_first {list} {words} {n} {out = out} {put = put} w =
       end_is = sym (add-zero put);
       holds = sym (put_nothing out put);
       known = w.known;
+      sizes_long = w.sizes_long;
       placed = w.placed;
+      places_long = w.places_long;
       room = w.room;
     }
 
@@ -91,8 +95,8 @@ module _ {list : List ℕ} {words : List WordAt} {text : List ℕ} {n : ℕ} {si
           omega (arith, inv.room, inv.end_is, long, size, bytes, both)
 
       on : (bytes : List ℕ) {places' : List (Option Span)} {out' : List ℕ} {end' : ℕ} → bytes ≡ in_a_row here → end' ≡ end + length bytes → out' ≡ put_at out end bytes
-          → WordsPlaced list words places' out' end' → WrittenSoFar list words text n sizes out₀ put places' out' end' rest
-      on bytes b f e placed =
+          → WordsPlaced list words places' out' end' → length places' ≡ length places → WrittenSoFar list words text n sizes out₀ put places' out' end' rest
+      on bytes b f e placed as_long =
           let row = row_append inv.gone here in
           record {
             gone = inv.gone ++ here;
@@ -102,7 +106,9 @@ module _ {list : List ℕ} {words : List WordAt} {text : List ℕ} {n : ℕ} {si
                 e ∙ ap₂ (λ l m. put_at l m bytes) inv.holds inv.end_is ∙ put_on out₀ put (in_a_row inv.gone) put_so_far bytes
                 ∙ ap (put_at out₀ put) (ap (in_a_row inv.gone ++◌) b ∙ sym row);
             known = inv.known;
+            sizes_long = inv.sizes_long;
             placed = placed;
+            places_long = omega (arith, as_long, inv.places_long);
             room = inv.room;
           }
 
@@ -130,7 +136,7 @@ module _ {list : List ℕ} {words : List WordAt} {text : List ℕ} {n : ℕ} {si
           on stays bytes bytes_are (sym same) e
           (λ r s noted.
           let before = inv.placed r s (ap (λ z. get_or z r None) (sym p) ∙ noted) in
-          rw (e, sym same) (stands_on out end end_within bytes s _ fits before))
+          rw (e, sym same) (stands_on out end end_within bytes s _ fits before)) (ap length p)
 
     -- or a word, whose rank is smaller
     module _ {r : ℕ} (h : found ≡ Some r) where
@@ -141,9 +147,17 @@ module _ {list : List ℕ} {words : List WordAt} {text : List ℕ} {n : ℕ} {si
       printed = print-pieces (linked_word list words r)
 
       pub word_writable : WritableWord list words n r sizes places out end
-      word_writable = record { below = listed.0; known = inv.known; placed = inv.placed; room = omega (arith, roomy listed.1, ap length printed) }
+      word_writable =
+          record {
+            below = listed.0;
+            known = inv.known;
+            sizes_long = inv.sizes_long;
+            placed = inv.placed;
+            places_long = inv.places_long;
+            room = omega (arith, roomy listed.1, ap length printed);
+          }
 
       pub written_word : {places' : List (Option Span)} {out' : List ℕ} {end' : ℕ} → end' ≡ end + length (print (linked_word list words r))
-          → out' ≡ put_at out end (print (linked_word list words r)) → WordsPlaced list words places' out' end'
+          → out' ≡ put_at out end (print (linked_word list words r)) → WordsPlaced list words places' out' end' → length places' ≡ length places
           → WrittenSoFar list words text n sizes out₀ put places' out' end' rest
-      written_word f e placed = on listed.1 (print (linked_word list words r)) printed f e placed
+      written_word f e placed as_long = on listed.1 (print (linked_word list words r)) printed f e placed as_long

@@ -23,7 +23,9 @@ pub record Writable (list : List ℕ) (words : List WordAt) (n : ℕ) (text : Li
     (out : List ℕ) (put : ℕ) : Type 0 where
   pub reads : Readable text
   pub known : SizesKnown list words sizes
+  pub sizes_long : n ≤ length sizes
   pub placed : WordsPlaced list words places out put
+  pub places_long : n ≤ length places
   pub room : put + length (print (linked_text list words n text)) ≤ length out
 
 -- the word of such a rank can be written
@@ -31,5 +33,7 @@ pub record WritableWord (list : List ℕ) (words : List WordAt) (n rank : ℕ) (
     (out : List ℕ) (put : ℕ) : Type 0 where
   pub below : rank < n
   pub known : SizesKnown list words sizes
+  pub sizes_long : n ≤ length sizes
   pub placed : WordsPlaced list words places out put
+  pub places_long : n ≤ length places
   pub room : put + length (print (linked_word list words rank)) ≤ length out

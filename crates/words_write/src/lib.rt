@@ -7,6 +7,7 @@ ghost use Rattle.kinds.specs.Written.{put_at};
 ghost use Rattle.plan.specs.Plan.{print};
 ghost use Rattle.pieces.specs.Written.{InText, piece_bytes, piece_length};
 ghost use Rattle.stored.specs.Spans.{part};
+ghost use Rattle.words_meaning.specs.Stock.{word_limit};
 ghost use Rattle.words_shelf.specs.declared.WordAt.{WordAt};
 ghost use Rattle.words_shelf.specs.Shelf.{Readable, linked_text, linked_word};
 ghost use Rattle.words_measure.specs.Sizes.{SizesKnown};
@@ -14,9 +15,9 @@ ghost use Rattle.words_write.specs.Writing.{WordsPlaced, Writable, WritableWord,
 
 use items::{Placed, Walk};
 use pieces::{Piece, put_piece};
+use plan::Size;
 use stored::Span;
 use words_meaning::MOST;
-use words_measure::Sizes;
 use words_shelf::Shelf;
 
 // Where in the output the linked texts of the words stand that were written.
@@ -43,8 +44,8 @@ fn copy_on(out: &mut [u8], span: Span, put: usize) -> usize
 }
 
 // Where a word's linked text stands in the output, if it does. One that links to nothing stands anywhere.
-fn place_of(sizes: &Sizes, places: &Places, word: usize) -> Option<Span>
-    requires { word < length sizes.now }
+fn place_of(sizes: &[Option<Size>], places: &[Option<Span>], word: usize) -> Option<Span>
+    requires { (word < length sizes.now) × (word < length places.now) }
     ensures { (list : List ℕ) (words : List WordAt) (out : List ℕ) (put : ℕ) → SizesKnown list words sizes.now → WordsPlaced list words places.now out put → IfSome result (λ s. WrittenBefore out put s (print (linked_word list words word))) }
 {
     match sizes[word] {
@@ -59,8 +60,8 @@ fn place_of(sizes: &Sizes, places: &Places, word: usize) -> Option<Span>
 fn write_word(
     shelf: &Shelf,
     word: usize,
-    sizes: &Sizes,
-    places: &mut Places,
+    sizes: &[Option<Size>],
+    places: &mut [Option<Span>],
     out: &mut [u8],
     put: usize,
 ) -> usize
@@ -68,6 +69,7 @@ fn write_word(
     ensures behind { result ≡ put + length (print (linked_word shelf.now.list.now shelf.now.words.now word)) }
     ensures written { out.new ≡ put_at out.old put (print (linked_word shelf.now.list.now shelf.now.words.now word)) }
     ensures placed { WordsPlaced shelf.now.list.now shelf.now.words.now places.new out.new result }
+    ensures as_long { length places.new ≡ length places.old }
 {
     if let Some(span) = place_of(sizes, places, word) {
         return copy_on(out, span, put);
@@ -93,8 +95,8 @@ fn write_word(
 pub fn write_text(
     shelf: &Shelf,
     text: &[u8],
-    sizes: &Sizes,
-    places: &mut Places,
+    sizes: &[Option<Size>],
+    places: &mut [Option<Span>],
     out: &mut [u8],
     put: usize,
 ) -> usize
@@ -102,6 +104,7 @@ pub fn write_text(
     ensures behind { result ≡ put + length (print (linked_text shelf.now.list.now shelf.now.words.now shelf.now.below text.now)) }
     ensures written { out.new ≡ put_at out.old put (print (linked_text shelf.now.list.now shelf.now.words.now shelf.now.below text.now)) }
     ensures placed { WordsPlaced shelf.now.list.now shelf.now.words.now places.new out.new result }
+    ensures as_long { length places.new ≡ length places.old }
 {
     let mut end = put;
     for Placed { piece, .. } in Walk::over(text) {
@@ -114,9 +117,11 @@ pub fn write_text(
 }
 
 // Writes a text's plan, linked by the words of a shelf, to the front of the output.
-pub fn write(shelf: &Shelf, text: &[u8], sizes: &Sizes, out: &mut [u8])
+pub fn write(shelf: &Shelf, text: &[u8], sizes: &[Option<Size>], out: &mut [u8])
+    requires few { shelf.now.below ≤ word_limit }
     requires reads { Readable text.now }
     requires known { SizesKnown shelf.now.list.now shelf.now.words.now sizes.now }
+    requires long { shelf.now.below ≤ length sizes.now }
     requires room { length (print (linked_text shelf.now.list.now shelf.now.words.now shelf.now.below text.now)) ≤ length out.old }
     ensures { out.new ≡ put_at out.old 0 (print (linked_text shelf.now.list.now shelf.now.words.now shelf.now.below text.now)) }
 {

@@ -10,7 +10,8 @@ pub returns-then-count-gt-MOST-clause-told : goal.returns-then-count-gt-MOST-cla
 returns-then-count-gt-MOST-clause-told c = (256, refl, too_many _ (sym c.number_at.ensures ∙ c.in-Some.is) c.if-count-gt-MOST.true)
 
 pub shelve-fit-requires : goal.shelve-fit-requires
-shelve-fit-requires c = (c.if-count-gt-MOST.false, list_long _ (sym c.number_at.ensures ∙ c.in-Some.is))
+shelve-fit-requires c =
+    record { few = c.if-count-gt-MOST.false; counted = list_long _ (sym c.number_at.ensures ∙ c.in-Some.is); room = c.requires }
 
 pub overflow_cast-result-then-fault-fit : goal.overflow_cast-result-then-fault-fit
 overflow_cast-result-then-fault-fit c =

@@ -19,4 +19,4 @@ loop-piece-preserved c =
 pub returns : goal.returns
 returns c =
     let on = c.loop-piece.invariant in
-    least_last _ _ on.kept (walk_over on c.in-None.ensures.steps on.kept.ahead)
+    least_last _ _ on.kept (walk_over on c.in-None.ensures.steps.1.1 on.kept.ahead)

@@ -17,7 +17,7 @@ returns-in_err-survey_text c =
     rw (p.1, p.2) (text_bad _ _ _ _ _ _ c.in_ok-shelf.ensures.told (found_faulty 0 _ c.in_err-survey_text.ensures))
 
 pub link_readable-requires : goal.link_readable-requires
-link_readable-requires c = reads_readable _ (found_counted 0 _ c.in_ok-survey_text.ensures).reads
+link_readable-requires c = record { few = c.in_ok-shelf.ensures.few; reads = reads_readable _ (found_counted 0 _ c.in_ok-survey_text.ensures).reads }
 
 pub returns : goal.returns
 returns c = text_right _ _ _ _ _ _ c.in_ok-shelf.ensures.told (found_counted 0 _ c.in_ok-survey_text.ensures).reads c.link_readable.ensures

@@ -9,7 +9,7 @@ use Rattle.words_measure.proofs.+measure_measure_word.Goals.{measure-in-None-fin
 pub measure-loop-piece-init : goal.measure-loop-piece-init
 measure-loop-piece-init t c =
     let w = walk_begins c.into_iter-piece-iterator.ensures.into_iter_gives c.over-piece-items.ensures in
-    let first = measured_first _ _ _ c.requires.0 c.requires.1 in
+    let first = measured_first _ _ _ c.requires.reads c.requires.known in
     on_walk _ w.0 (rw w.1 first.so_far.ahead) (rw w.1 first)
 
 pub measure-find_piece-requires : goal.measure-find_piece-requires
@@ -22,7 +22,7 @@ measure-measure_word-size-requires t c =
     let on = c.loop-piece.invariant in
     let here = walk_piece on c.in-Some.ensures.steps on.kept.so_far.ahead in
     let lower = measured_lower on.kept here c.find_piece.ensures c.in-Some-find_piece.is in
-    (omega (arith, c.decreases, lower), (lower, on.kept.known))
+    (omega (arith, c.decreases, lower), (lower, (on.kept.known, omega (arith, c.loop-piece.auto.sizes, c.requires.long))))
 
 pub measure-loop-piece-preserved : goal.measure-loop-piece-preserved
 measure-loop-piece-preserved t c =
@@ -43,13 +43,18 @@ measure-loop-piece-preserved t c =
 pub measure-returns-clause-told : goal.measure-returns-clause-told
 measure-returns-clause-told t c =
     let on = c.loop-piece.invariant in
-    measured_last on.kept (linked_over on.kept.so_far (walk_over on c.in-None.ensures.steps on.kept.so_far.ahead))
+    measured_last on.kept (linked_over on.kept.so_far (walk_over on c.in-None.ensures.steps.1.1 on.kept.so_far.ahead))
 
 -- the word's text is measured by the words before it
 pub measure_word-measure-size-requires : goal.measure_word-measure-size-requires
 measure_word-measure-size-requires t c =
-    let before = c.before-2.ensures in
-    (omega (arith, c.decreases, before.below), (rw c.text_of.ensures (word_reads _ _ c.args.shelf.now.shelved _ c.requires.0), rw (before.list, before.words) c.requires.1))
+    let before = c.before-2.ensures in (
+      omega (arith, c.decreases, before.below),
+      (
+        rw c.text_of.ensures (word_reads _ _ c.args.shelf.now.shelved _ c.requires.below),
+        (rw (before.list, before.words) c.requires.known, omega (arith, before.below, c.requires.below, c.requires.long)),
+      ),
+    )
 
 pub measure_word-returns-clause-told : goal.measure_word-returns-clause-told
 measure_word-returns-clause-told t c =

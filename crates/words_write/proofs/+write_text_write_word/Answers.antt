@@ -42,18 +42,18 @@ write_text-loop-piece-preserved t c =
     let on = c.loop-piece.invariant in
     let here = walk_piece on c.in-Some.ensures.steps on.kept.so_far.ahead in
     let word = c.write_word-end.ensures in
-    let next = written_word on.kept here c.find_piece.ensures c.in-Some-find_piece.is word.behind word.written word.placed in
+    let next = written_word on.kept here c.find_piece.ensures c.in-Some-find_piece.is word.behind word.written word.placed word.as_long in
     on_walk _ (walk_same on c.in-Some.ensures.steps) next.so_far.ahead next
 
 pub write_text-returns-clause-behind : goal.write_text-returns-clause-behind
 write_text-returns-clause-behind t c =
     let on = c.loop-piece.invariant in
-    written_behind on.kept (linked_over on.kept.so_far (walk_over on c.in-None.ensures.steps on.kept.so_far.ahead))
+    written_behind on.kept (linked_over on.kept.so_far (walk_over on c.in-None.ensures.steps.1.1 on.kept.so_far.ahead))
 
 pub write_text-returns-clause-written : goal.write_text-returns-clause-written
 write_text-returns-clause-written t c =
     let on = c.loop-piece.invariant in
-    written_all on.kept (linked_over on.kept.so_far (walk_over on c.in-None.ensures.steps on.kept.so_far.ahead))
+    written_all on.kept (linked_over on.kept.so_far (walk_over on c.in-None.ensures.steps.1.1 on.kept.so_far.ahead))
 
 -- a word that stands in the output is copied
 pub write_word-copy_on-requires : goal.write_word-copy_on-requires
