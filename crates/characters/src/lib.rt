@@ -49,7 +49,8 @@ fn longer_character(first: u32, rest: &[u8]) -> Option<Character>
     }
 }
 
-// The character of UTF-8 that these bytes begin with, if they begin one. Most characters are one byte.
+// The character of UTF-8 that these bytes begin with, if they begin one. Most characters are one byte, and are told where they are asked for.
+#[inline(always)]
 #[tactic(auto, unfolding(plan::specs::Token::character))]
 fn first_character(bytes: &[u8]) -> Option<Character>
     ensures { result ≡ character bytes.now }
@@ -61,11 +62,12 @@ fn first_character(bytes: &[u8]) -> Option<Character>
     if value < 0x80 {
         Some(Character { value, width: 1 })
     } else {
-        longer_character(value, rest)
+        Some(longer_character(value, rest)?)
     }
 }
 
 // The character that begins at a place, with all its bytes in the text; at the end of the text or past it there is none.
+#[inline(always)]
 #[tactic(auto, unfolding(plan::specs::Token::character))]
 pub fn character_at(text: &[u8], at: usize) -> Option<Character>
     ensures is { result ≡ character (drop at text.now) }

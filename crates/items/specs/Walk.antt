@@ -47,9 +47,10 @@ abbrev pub Walked : (text : List ℕ) → (from : ℕ) → Option Placed → Lis
 Walked text from None ps = ps ≡ []
 Walked text from (Some k) ps = Begins text from k ps
 
--- what the walk gives, where it stands before and behind it
+-- what the walk gives, where it stands before and behind it; where no piece comes, it stands where it stood
 abbrev pub Gives : (text : List ℕ) → (from : ℕ) → Option Placed → (text' : List ℕ) → (rest : ℕ) → Type 0
-Gives text from None text' rest = (ps : List (PlanPiece ℕ)) → Shows token_limit from (drop from text) ps → ps ≡ []
+Gives text from None text' rest =
+    (text' ≡ text) × ((rest ≡ from) × ((ps : List (PlanPiece ℕ)) → Shows token_limit from (drop from text) ps → ps ≡ []))
 Gives text from (Some k) text' rest =
     (text' ≡ text) × ((ps : List (PlanPiece ℕ)) → Shows token_limit from (drop from text) ps → Passed text from k.piece k.at.0 rest ps)
 

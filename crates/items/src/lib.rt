@@ -82,6 +82,7 @@ fn mark_end(text: &[u8], at: usize) -> usize
 }
 
 // The piece that begins at a place of an accepted text, where no mark begins.
+#[inline(always)]
 fn piece_at(text: &[u8], at: usize) -> Placed
     requires { PieceFrom text.now at }
     ensures { (ps : List (PlanPiece ℕ)) → Shows token_limit at (drop at text.now) ps → Begins text.now at result ps }
@@ -97,6 +98,7 @@ fn piece_at(text: &[u8], at: usize) -> Placed
 }
 
 // The next piece of an accepted text, from a place on.
+#[inline(always)]
 fn next_piece(text: &[u8], from: usize) -> Option<Placed>
     requires { ShowsAhead text.now from }
     ensures { (ps : List (PlanPiece ℕ)) → Shows token_limit from (drop from text.now) ps → Walked text.now from result ps }
@@ -130,6 +132,8 @@ impl<'a> Iterator for Walk<'a> {
 
     ghost remaining = { λ s. at_most (length s.text.now - s.at) };
 
+    // A loop over a text takes half as long again where each piece is handed to it through memory.
+    #[inline(always)]
     fn next(&mut self) -> Option<Placed> {
         let next = next_piece(self.text, self.at)?;
         self.at = next.at.0 as usize + next.piece.length() as usize;

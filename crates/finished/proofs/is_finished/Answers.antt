@@ -57,4 +57,4 @@ loop-piece-preserved c =
 pub returns : goal.returns
 returns c =
     let on = c.loop-piece.invariant in
-    finished_end on.kept (walk_none on c.in-None.ensures.steps)
+    finished_end on.kept (walk_none on c.in-None.ensures.steps.1.1)

@@ -29,4 +29,4 @@ pub returns-clause-holds : goal.returns-clause-holds
 returns-clause-holds c =
     let on = c.loop-piece.invariant in
     let o = on.kept in
-    λ p h. onward_end o c.end_plan.ensures (walk_over on c.in-None.ensures.steps o.ahead) p (rw (o.same.outer ∙ c.fresh-held.ensures.same_cells) h)
+    λ p h. onward_end o c.end_plan.ensures (walk_over on c.in-None.ensures.steps.1.1 o.ahead) p (rw (o.same.outer ∙ c.fresh-held.ensures.same_cells) h)

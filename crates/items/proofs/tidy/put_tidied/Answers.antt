@@ -24,4 +24,4 @@ loop-piece-preserved c =
 pub returns : goal.returns
 returns c =
     let on = c.loop-piece.invariant in
-    tidy_last on.kept (walk_over on c.in-None.ensures.steps on.kept.ahead)
+    tidy_last on.kept (walk_over on c.in-None.ensures.steps.1.1 on.kept.ahead)
