@@ -3,12 +3,11 @@ ghost use Rattle.std.specs.Prelude.{◌≡◌, ◌+◌, ◌++◌, ◌<◌, IfSom
 ghost use Rattle.std.specs.Iterator.{at_most};
 ghost use Rattle.lines.specs.Parts.{CutAt, InOrder, turns};
 
-// The parts of a text that a sign parts. A text without the sign is one part, also where it is empty.
+// The parts of a text that a sign parts. A text without the sign is one part, also where it or the sign is empty.
 #[derive(Clone, Copy)]
 pub struct Parts<'a> {
     left: Option<&'a [u8]>,
     sign: &'a [u8],
-    ghost sign_is_there: { 0 < length sign.now },
 }
 
 // The fields of a line of a case. One that the line does not have is empty, and a fifth is part of the fourth, which is then no number.
@@ -23,10 +22,15 @@ pub struct Fields<'a> {
     pub behind: &'a [u8],
 }
 
-// What stands before the first sign, and what stands behind it.
+// What stands before the first sign, and what stands behind it. A sign of no bytes stands nowhere: so a text that is cut again and again
+// comes to its end.
 pub fn split_once<'a>(text: &'a [u8], sign: &[u8]) -> Option<(&'a [u8], &'a [u8])>
-    ensures { IfSome result (λ cut. text.now ≡ cut.0.now ++ (sign.now ++ cut.1.now)) }
+    ensures cut { IfSome result (λ cut. text.now ≡ cut.0.now ++ (sign.now ++ cut.1.now)) }
+    ensures shorter { IfSome result (λ cut. length cut.0.now + length cut.1.now < length text.now) }
 {
+    if sign.is_empty() {
+        return None;
+    }
     for at in 0..text.len() {
         let (before, from) = text.split_at(at);
         if let Some(behind) = from.strip_prefix(sign) {
@@ -37,9 +41,7 @@ pub fn split_once<'a>(text: &'a [u8], sign: &[u8]) -> Option<(&'a [u8], &'a [u8]
 }
 
 impl<'a> Parts<'a> {
-    pub fn of(text: &'a [u8], sign: &'a [u8]) -> Self
-        requires { 0 < length sign.now }
-    {
+    pub fn of(text: &'a [u8], sign: &'a [u8]) -> Self {
         Self {
             left: Some(text),
             sign,

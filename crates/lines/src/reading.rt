@@ -1,11 +1,15 @@
 // Standard input, read whole and told line by line.
+ghost use Rattle.std.specs.Prelude.{◌≤◌, length};
+
 use input::read_whole;
 use std::io;
 use telling::say;
 
 // Reads all of standard input, and gives what there is to go through. Of an input that cannot be read to its end, or that fills the buffer
 // and so may go on, that is nothing: standard error says which.
-pub fn read_input<'a>(rt: &(impl io::Input + Eprint), buffer: &'a mut [u8]) -> &'a [u8] {
+pub fn read_input<'a>(rt: &(impl io::Input + Eprint), buffer: &'a mut [u8]) -> &'a [u8]
+    ensures { length result.now ≤ length buffer.old }
+{
     match read_whole(rt, buffer) {
         Ok(read) if read < buffer.len() => &buffer[..read],
         Ok(_) => {

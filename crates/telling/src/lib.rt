@@ -29,7 +29,8 @@ pub fn say_line(rt: &(impl Print + Eprint), count: impl Display + Drop) {
     say(rt, b"\n");
 }
 
-// Number, steps, cells, length and place in decimal, with one SP between; an error where not all could be written.
+// Number, steps, cells, length and place in decimal, with one SP between; an error where not all could be written. Each number is a write of
+// its own, with its SP: where an output takes a write whole or not at all, those that it has room for are there.
 pub fn tell_five(rt: &impl Print, numbers: Numbers) -> io::Result<()> {
     let Numbers {
         number,
@@ -38,7 +39,11 @@ pub fn tell_five(rt: &impl Print, numbers: Numbers) -> io::Result<()> {
         length,
         place,
     } = numbers;
-    print!(rt; "{number} {steps} {cells} {length} {place}")
+    rt.print(number)?;
+    print!(rt; " {steps}")?;
+    print!(rt; " {cells}")?;
+    print!(rt; " {length}")?;
+    print!(rt; " {place}")
 }
 
 // The printed text, which the output holds first, and what stands behind it.

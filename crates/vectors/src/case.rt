@@ -20,14 +20,19 @@ struct Five {
     place: usize,
 }
 
-// What a line says: the service and what it is given, how much of the memory and of the output is lent, and what is to be answered and
-// written. The quota and the memory are for RUN.
+// What a line says first: the service, and how much of the memory and of the output is lent. The quota and the memory are for RUN.
 #[derive(Clone, Copy)]
-pub struct Case<'a> {
+pub struct Head {
     service: Service,
     quota: u32,
     pub memory: usize,
     pub output: usize,
+}
+
+// What a line says: what it says first, what the service is given, and what is to be answered and written.
+#[derive(Clone, Copy)]
+pub struct Case<'a> {
+    head: Head,
     expected: Five,
     text: &'a [u8],
     written: &'a [u8],
@@ -67,22 +72,25 @@ impl Service {
     }
 }
 
+impl Head {
+    pub fn read(fields: &mut Fields) -> Option<Head> {
+        Some(Head {
+            service: Service::of(fields.number()?)?,
+            quota: u32::try_from(fields.number()?).ok()?,
+            memory: fields.number()?,
+            output: fields.number()?,
+        })
+    }
+}
+
 impl<'a> Case<'a> {
-    // Reads a line, and puts the bytes that it stands for into the room. None where it is no case.
-    pub fn read(line: &[u8], room: &'a mut [u8]) -> Option<Case<'a>> {
-        let mut fields = Fields::of(line);
-        let service = Service::of(fields.number()?)?;
-        let quota = u32::try_from(fields.number()?).ok()?;
-        let memory = fields.number()?;
-        let output = fields.number()?;
+    // Reads what a line says behind its head, and puts the bytes that it stands for into the room. None where it is no case.
+    pub fn read(head: Head, mut fields: Fields, room: &'a mut [u8]) -> Option<Case<'a>> {
         let expected = Five::read(&mut fields)?;
         let (text, room) = fields.bytes(room)?;
         let (written, _) = fields.bytes(room)?;
         fields.are_over().then_some(Case {
-            service,
-            quota,
-            memory,
-            output,
+            head,
             expected,
             text,
             written,
@@ -92,11 +100,11 @@ impl<'a> Case<'a> {
     // Calls the service.
     fn call(self, memory: &mut [u32], output: &mut [u8]) -> Numbers {
         fill_output(output);
-        match self.service {
+        match self.head.service {
             Service::Read => read::read(self.text, output).into(),
             Service::Run => {
                 fill_memory(memory);
-                run::run(self.text, self.quota, memory, output).into()
+                run::run(self.text, self.head.quota, memory, output).into()
             }
         }
     }
@@ -113,7 +121,7 @@ impl<'a> Case<'a> {
         if !all_zero(memory) {
             return Err(Fault::MemoryLeft);
         }
-        Ok(self.service)
+        Ok(self.head.service)
     }
 
     // Calls the service, and judges what came of it.

@@ -17,7 +17,8 @@ mod case;
 mod form;
 mod report;
 
-use case::{Case, Service};
+use case::{Case, Head, Service};
+use form::Fields;
 use kinds::{Cell, Place, Token};
 use lines::read_input;
 use report::{Fault, Report};
@@ -34,16 +35,19 @@ const ROOM: usize = Place::LIMIT + 1 + OUTPUT;
 // More numbers than a run may be lent, for the cases that are BADARENA.
 const MEMORY: usize = 100_000;
 
-// Runs the case of a line, with as much of the memory and of the output lent as it says.
+// Runs the case of a line, with as much of the memory and of the output lent as it says. A line that asks for more than there is is
+// malformed, and is found so before the bytes that it stands for are put into the room: they may be many.
 fn run_case(
     line: &[u8],
     room: &mut [u8],
     memory: &mut [u32],
     output: &mut [u8],
 ) -> Result<Service, Fault> {
-    let case = Case::read(line, room).ok_or(Fault::Malformed)?;
-    let memory = memory.get_mut(..case.memory).ok_or(Fault::Malformed)?;
-    let output = output.get_mut(..case.output).ok_or(Fault::Malformed)?;
+    let mut fields = Fields::of(line);
+    let head = Head::read(&mut fields).ok_or(Fault::Malformed)?;
+    let memory = memory.get_mut(..head.memory).ok_or(Fault::Malformed)?;
+    let output = output.get_mut(..head.output).ok_or(Fault::Malformed)?;
+    let case = Case::read(head, fields, room).ok_or(Fault::Malformed)?;
     case.run(memory, output)
 }
 
