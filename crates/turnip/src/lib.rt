@@ -88,6 +88,7 @@ fn store_tally(counted: Tally, tally: &mut [u32; 2])
     *tally = [counted.filed, counted.done];
 }
 
+// Of what is lent the roll is written first, then the tally, and the answer last: where the answer stands, all that it tells of stands too.
 pub fn turnip_roll_file(
     roll: &mut [u8],
     used: usize,
@@ -99,8 +100,9 @@ pub fn turnip_roll_file(
     ensures { FilesInArray roll.old used job.now text.now tally.old roll.new tally.new answer.new }
 {
     let mut counted = tally_in(tally);
-    store_roll(roll_add::file(&mut counted, roll, used, job, text), answer);
+    let told = roll_add::file(&mut counted, roll, used, job, text);
     store_tally(counted, tally);
+    store_roll(told, answer);
 }
 
 pub fn turnip_roll_done(
@@ -113,8 +115,9 @@ pub fn turnip_roll_done(
     ensures { ClosesInArray roll.old used job.now tally.old roll.new tally.new answer.new }
 {
     let mut counted = tally_in(tally);
-    store_roll(roll_add::close_job(&mut counted, roll, used, job), answer);
+    let told = roll_add::close_job(&mut counted, roll, used, job);
     store_tally(counted, tally);
+    store_roll(told, answer);
 }
 
 pub fn turnip_link(list: &[u8], text: &[u8], out: &mut [u8], answer: &mut [u32; 5])
