@@ -25,8 +25,10 @@ fn weigh_roll(roll: &[u8], added: NewEntry) -> Result<(Sums, Counts), RollRefusa
         roll,
         upto: sums.end as usize,
     };
-    let counts = weigh(&front, added)?;
-    Ok((sums, counts))
+    match weigh(&front, added) {
+        Ok(counts) => Ok((sums, counts)),
+        Err(refusal) => Err(refusal),
+    }
 }
 
 // Only the bytes in use of a buffer are a roll. A use longer than the buffer counts as all of it.
