@@ -21,7 +21,7 @@ extern "C" {
    Nothing is allocated, nothing is kept between calls, and nothing that was lent is looked at after the call; so calls from
    several threads do not disturb each other if what is written is lent to one of them only: outputs, memories, answers, lists of
    places, tallies, and a roll that is added to. A call uses a small fixed amount of stack, also for a plan nested to the limit;
-   linking uses more with each word that uses another, some 85 KiB with a chain of 256 words.
+   linking uses more with each word that uses another, some 86 KiB with a chain of 256 words.
 
    No pointer may be NULL, also not that of a slice of length 0: point it at any byte of yours (for a memory or a list of places,
    at any uint32_t). Numbers are aligned as uint32_t is. What is written (out, memory, answer; a list of places, a tally, a roll
