@@ -62,6 +62,7 @@ fn first_character(bytes: &[u8]) -> Option<Character>
     if value < 0x80 {
         Some(Character { value, width: 1 })
     } else {
+        // Taken out of its Option and put into one again: handed on as it is, a character of one byte would go through memory with it.
         Some(longer_character(value, rest)?)
     }
 }

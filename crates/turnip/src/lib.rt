@@ -88,7 +88,7 @@ fn store_tally(counted: Tally, tally: &mut [u32; 2])
     *tally = [counted.filed, counted.done];
 }
 
-// Of what is lent the roll is written first, then the tally, and the answer last: where the answer stands, all that it tells of stands too.
+// The roll is written first, then the tally, and the answer last. No contract speaks of this order: it is kept for callers in C who may look.
 pub fn turnip_roll_file(
     roll: &mut [u8],
     used: usize,
