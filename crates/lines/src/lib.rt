@@ -6,8 +6,12 @@ mod answer;
 mod digits;
 mod parts;
 mod reading;
+mod signed;
+#[cfg(test)]
+mod tests;
 
 pub use answer::{echo, tell_answer, tell_rest};
 pub use digits::{number_of, put_hex};
 pub use parts::{Fields, Parts, fields_of, split_once};
 pub use reading::{read_input, tell_lines};
+pub use signed::SignedParts;

@@ -41,7 +41,11 @@ pub fn split_once<'a>(text: &'a [u8], sign: &[u8]) -> Option<(&'a [u8], &'a [u8]
 }
 
 impl<'a> Parts<'a> {
-    pub fn of(text: &'a [u8], sign: &'a [u8]) -> Self {
+    ghost use Rattle.lines.specs.Signs.{sign_of};
+
+    pub fn of(text: &'a [u8], sign: &'a [u8]) -> Self
+        ensures sign { sign_of result ≡ sign.now }
+    {
         Self {
             left: Some(text),
             sign,
@@ -50,7 +54,11 @@ impl<'a> Parts<'a> {
 }
 
 impl<'a> Iterator for Parts<'a> {
+    ghost use Rattle.lines.specs.Signs.{sign_of};
+
     type Item = &'a [u8];
+
+    ghost next_gives = { λ s r t. sign_of t ≡ sign_of s };
 
     ghost remaining = { λ s. at_most (turns s.left) };
 

@@ -61,16 +61,20 @@ module _ (list : List ℕ) (words : List WordAt) (rank : ℕ) (w : WordAt) (room
       (λ r h. ap₂ (λ v ws. listed (stock_token v) ws) (sym (word_stays r h)) (sym (words_stay r (omega arith))) ∙ own r h)
       (ap₂ (λ v ws. listed (stock_token v) ws) word_new (sym (words_stay rank (omega arith))) ∙ fit.new)
 
--- What the loop knows: the words found so far, and that the rest of the list decides.
-pub record ShelvedSoFar (list : List ℕ) (words : List WordAt) (count rank at : ℕ) : Type 0 where
-  pub long : word_limit ≤ length words
+-- What the loop knows, of so many places lent: the words found so far, and that the rest of the list decides.
+pub record ShelvedIn (room : ℕ) (list : List ℕ) (words : List WordAt) (count rank at : ℕ) : Type 0 where
+  pub long : length words ≡ room
   pub within : at ≤ length list
   pub decides : fitting standard count [] (drop 4 list) ≡ fitting standard (count - rank) (words_to list words rank) (drop at list)
   pub shelved : Shelved list words rank
   pub own : OwnNames list words rank
 
+-- .. and of a place for each word that a list may have
+abbrev pub ShelvedSoFar : (list : List ℕ) → (words : List WordAt) → (count rank at : ℕ) → Type 0
+ShelvedSoFar = ShelvedIn word_limit
+
 -- before any word
-pub shelve_first : (list : List ℕ) (words : List WordAt) (count : ℕ) → word_limit ≤ length words → 4 ≤ length list → ShelvedSoFar list words count 0 4
+pub shelve_first : {room : ℕ} (list : List ℕ) (words : List WordAt) (count : ℕ) → length words ≡ room → 4 ≤ length list → ShelvedIn room list words count 0 4
 unfolding words_to
 shelve_first list words count long there =
     record {
@@ -81,7 +85,7 @@ shelve_first list words count long there =
       own = λ r h. absurd (omega arith);
     }
 
-module _ {list : List ℕ} {words : List WordAt} {count rank at : ℕ} (inv : ShelvedSoFar list words count rank at) where
+module _ {room : ℕ} {list : List ℕ} {words : List WordAt} {count rank at : ℕ} (inv : ShelvedIn room list words count rank at) where
   abbrev older : List Word
   older = words_to list words rank
 
@@ -101,19 +105,19 @@ module _ {list : List ℕ} {words : List WordAt} {count rank at : ℕ} (inv : Sh
       ∙ ap (λ k. record { words = words_to list words k; whole = eqb at (length list) }) same
 
   -- the next word fits, and where it stands is kept
-  pub shelve_on : {w : WordAt} {end : ℕ} → rank < count → count ≤ word_limit → FitThere list (words_to list words rank) at w → end ≡ w.text.at + w.text.len
-      → ShelvedSoFar list (set words rank w) count (rank + 1) end
+  pub shelve_on : {w : WordAt} {end : ℕ} → rank < count → count ≤ room → FitThere list (words_to list words rank) at w → end ≡ w.text.at + w.text.len
+      → ShelvedIn room list (set words rank w) count (rank + 1) end
   shelve_on {w} {end} h few f e =
-      let room : rank < length words = omega (arith, inv.long) in
+      let there : rank < length words = omega (arith, inv.long) in
       let fit = fit_word older (word_in list w) f.fit in
       let less : count - rank - 1 ≡ count - (rank + 1) = omega arith in
       record {
-        long = omega (arith, length-set words rank w, inv.long);
+        long = length-set words rank w ∙ inv.long;
         within = omega (arith, f.stand.within₂);
         decides =
             inv.decides ∙ goes_on standard older (count - rank) (drop at list) (omega arith) f.there f.fit
-            ∙ ap₂ (λ k ws. fitting standard k ws (drop (w.text.at + w.text.len) list)) less (words_new list words rank w room)
+            ∙ ap₂ (λ k ws. fitting standard k ws (drop (w.text.at + w.text.len) list)) less (words_new list words rank w there)
             ∙ ap (λ k. fitting standard (count - (rank + 1)) (words_to list (set words rank w) (rank + 1)) (drop k list)) (sym e);
-        shelved = shelved_new list words rank w room (f.stand.within, f.stand.within₂, fit.reads) inv.shelved;
-        own = own_new list words rank w room fit inv.own;
+        shelved = shelved_new list words rank w there (f.stand.within, f.stand.within₂, fit.reads) inv.shelved;
+        own = own_new list words rank w there fit inv.own;
       }

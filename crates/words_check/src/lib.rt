@@ -14,6 +14,9 @@ ghost use Rattle.words_shelf.specs.Shelf.{Readable};
 ghost use Rattle.words_shelf.specs.Words.{Shelved, words_to};
 ghost use Rattle.words_check.specs.Checking.{FitThere, OwnNames, earliest, fit_front, fit_words_told, fitting, is_new_name, lower, lowered, word_ahead};
 
+#[cfg(test)]
+mod tests;
+
 use characters::{character_at, may_hold};
 use items::{Placed, Walk};
 use plan::Character;
@@ -152,6 +155,7 @@ pub fn check_list<'a>(list: &'a [u8], words: &'a mut [WordAt]) -> Result<Shelf<'
     ensures told { MatchResult result (λ s. stock standard list.now ≡ WORDS (words_to s.list.now s.words.now s.below)) (λ r. (rank : ℕ) × (r ≡ BadWords rank) × (stock standard list.now ≡ LIST_FAULT rank)) }
     ensures own_list { IfOk result (λ s. s.list.now ≡ list.now) }
     ensures few { IfOk result (λ s. s.below ≤ word_limit) }
+    ensures as_long { IfOk result (λ s. length s.words.now ≡ length words.old) }
 {
     let Some(count) = number_at(list, 0) else {
         return Err(LinkRefusal::BadWords(0));

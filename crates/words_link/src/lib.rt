@@ -3,7 +3,7 @@
 // large it is, and this stands on the stack.
 #![tactic(auto)]
 
-ghost use Rattle.std.specs.Prelude.{◌≤◌};
+ghost use Rattle.std.specs.Prelude.{◌≡◌, ◌≤◌, length};
 ghost use Rattle.words_meaning.specs.Stock.{word_limit};
 ghost use Rattle.words_shelf.specs.Shelf.{Readable};
 ghost use Rattle.words_link.specs.Calls.{Links};
@@ -17,6 +17,14 @@ use words_meaning::{LinkRefusal, MOST};
 use words_measure::{Sizes, measure};
 use words_shelf::{NO_WORD, Shelf, Words};
 use words_write::write;
+
+// A shelf with a place for each word that a list may have, and no more words than these. A shelf alone may be of any length.
+#[derive(Clone, Copy)]
+pub struct StockShelf<'a> {
+    pub shelf: Shelf<'a>,
+    pub ghost few: { shelf.below ≤ word_limit },
+    pub ghost places: { length shelf.words.now ≡ word_limit },
+}
 
 // Links a text that reads: it is measured first, so that nothing is written unless all of it is.
 fn link_readable(shelf: &Shelf, text: &[u8], output: &mut [u8]) -> Result<Size, LinkRefusal>
@@ -42,7 +50,8 @@ pub fn link(list: &[u8], text: &[u8], output: &mut [u8]) -> Result<Size, LinkRef
 {
     let mut words: Words = [NO_WORD; MOST];
     let shelf = check_list(list, &mut words)?;
+    let stock = StockShelf { shelf };
     // With no room every item is past it. How many items there are does not matter before the text is linked.
     survey_text(text, 0)?;
-    link_readable(&shelf, text, output)
+    link_readable(&stock.shelf, text, output)
 }

@@ -5,7 +5,7 @@
 ghost use Rattle.std.specs.Prelude.{◌≤◌};
 ghost use Rattle.words_lists.specs.declared.building.TheConstants.{LIST};
 
-use lines::{Parts, put_hex, split_once};
+use lines::{SignedParts, put_hex, split_once};
 use stored::{NUMBER, put_counted, put_number};
 
 // More bytes than any of these lists has.
@@ -70,7 +70,7 @@ fn put_words(room: &mut [u8; LIST], field: &[u8]) -> Option<List> {
     if field.is_empty() {
         return Some(put);
     }
-    for word in Parts::of(field, b", ") {
+    for word in SignedParts::of(field, b", ") {
         put = put.with_word(room, word)?;
     }
     Some(put)

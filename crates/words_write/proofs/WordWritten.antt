@@ -18,7 +18,7 @@ use Rattle.words_shelf.specs.declared.WordAt.{WordAt}
 use Rattle.words_shelf.proofs.Noting.{noted-right}
 use Rattle.words_shelf.proofs.StandsFor.{word_reads}
 use Rattle.words_measure.specs.Sizes.{size}
-use Rattle.words_write.specs.Writing.{WordsPlaced, Writable, WritableWord, WrittenBefore}
+use Rattle.words_write.specs.Writing.{WordsPlaced, Writable, WritableLong, WritableWord, WritableWordLong, WrittenBefore}
 use Rattle.words_write.proofs.WrittenBefore.{stands_here, stands_on}
 
 -- a plan of no cells prints nothing
@@ -55,15 +55,7 @@ module _ {list : List ℕ} {words : List WordAt} {n rank : ℕ} {sizes : List (O
   -- its text can be written by the words before it
   pub text_writable : Shelved list words n → Writable list words rank (word_of list words rank).text sizes places out put
   unfolding linked_word
-  text_writable s =
-      record {
-        reads = word_reads list words s rank can.below;
-        known = can.known;
-        sizes_long = omega (arith, can.below, can.sizes_long);
-        placed = can.placed;
-        places_long = omega (arith, can.below, can.places_long);
-        room = can.room;
-      }
+  text_writable s = record { reads = word_reads list words s rank can.below; known = can.known; placed = can.placed; room = can.room }
 
   -- its place is remembered
   pub word_placed : (places' : List (Option Span)) {out' : List ℕ} {end : ℕ} → end ≡ put + length (print (linked_word list words rank))
@@ -74,3 +66,15 @@ module _ {list : List ℕ} {words : List WordAt} {n rank : ℕ} {sizes : List (O
       noted-right (λ k s. WrittenBefore out' end s (print (linked_word list words k))) places' rank room placed
       (subst (λ l. WrittenBefore l end (span put (end - put)) bytes) (sym e)
       (subst (λ m. WrittenBefore (put_at out put bytes) m (span put (end - put)) bytes) (sym f) here))
+
+-- .. and what is remembered has a place for each of these
+pub text_writable_long : {list : List ℕ} {words : List WordAt} {n rank : ℕ} {sizes : List (Option Size)} {places : List (Option Span)} {out : List ℕ} {put : ℕ}
+    (can : WritableWordLong list words n rank sizes places out put) → Shelved list words n
+    → WritableLong list words rank (word_of list words rank).text sizes places out put
+text_writable_long can s =
+    let below = can.writable.below in
+    record {
+      writable = text_writable can.writable s;
+      sizes_long = omega (arith, below, can.sizes_long);
+      places_long = omega (arith, below, can.places_long);
+    }

@@ -22,7 +22,7 @@ use Rattle.words_shelf.specs.Shelf.{linked_text, linked_word, seek_piece, stands
 use Rattle.words_shelf.specs.declared.WordAt.{WordAt}
 use Rattle.words_shelf.proofs.StandsFor.{LinkedSoFar, linked_first, linked_on, linked_part, piece-listed, piece_unlisted}
 use Rattle.words_measure.specs.Sizes.{SizesKnown}
-use Rattle.words_write.specs.Writing.{WordsPlaced, Writable, WritableWord}
+use Rattle.words_write.specs.Writing.{WordsPlaced, Writable, WritableLong, WritableWord, WritableWordLong}
 use Rattle.words_write.proofs.WrittenBefore.{stands_on}
 
 pub record WrittenSoFar (list : List ℕ) (words : List WordAt) (text : List ℕ) (n : ℕ) (sizes : List (Option Size)) (out₀ : List ℕ) (put : ℕ)
@@ -32,9 +32,7 @@ pub record WrittenSoFar (list : List ℕ) (words : List WordAt) (text : List ℕ
   pub end_is : end ≡ put + length (in_a_row gone)
   pub holds : out ≡ put_at out₀ put (in_a_row gone)
   pub known : SizesKnown list words sizes
-  pub sizes_long : n ≤ length sizes
   pub placed : WordsPlaced list words places out end
-  pub places_long : n ≤ length places
   pub room : put + length (print (linked_text list words n text)) ≤ length out₀
 
 pub written_first : {list : List ℕ} {words : List WordAt} {n : ℕ} {text : List ℕ} {sizes : List (Option Size)} {places : List (Option Span)} {out : List ℕ} {put : ℕ}
@@ -47,9 +45,7 @@ written_first {list} {words} {n} {out = out} {put = put} w =
       end_is = sym (add-zero put);
       holds = sym (put_nothing out put);
       known = w.known;
-      sizes_long = w.sizes_long;
       placed = w.placed;
-      places_long = w.places_long;
       room = w.room;
     }
 
@@ -95,8 +91,8 @@ module _ {list : List ℕ} {words : List WordAt} {text : List ℕ} {n : ℕ} {si
           omega (arith, inv.room, inv.end_is, long, size, bytes, both)
 
       on : (bytes : List ℕ) {places' : List (Option Span)} {out' : List ℕ} {end' : ℕ} → bytes ≡ in_a_row here → end' ≡ end + length bytes → out' ≡ put_at out end bytes
-          → WordsPlaced list words places' out' end' → length places' ≡ length places → WrittenSoFar list words text n sizes out₀ put places' out' end' rest
-      on bytes b f e placed as_long =
+          → WordsPlaced list words places' out' end' → WrittenSoFar list words text n sizes out₀ put places' out' end' rest
+      on bytes b f e placed =
           let row = row_append inv.gone here in
           record {
             gone = inv.gone ++ here;
@@ -106,9 +102,7 @@ module _ {list : List ℕ} {words : List WordAt} {text : List ℕ} {n : ℕ} {si
                 e ∙ ap₂ (λ l m. put_at l m bytes) inv.holds inv.end_is ∙ put_on out₀ put (in_a_row inv.gone) put_so_far bytes
                 ∙ ap (put_at out₀ put) (ap (in_a_row inv.gone ++◌) b ∙ sym row);
             known = inv.known;
-            sizes_long = inv.sizes_long;
             placed = placed;
-            places_long = omega (arith, as_long, inv.places_long);
             room = inv.room;
           }
 
@@ -136,7 +130,7 @@ module _ {list : List ℕ} {words : List WordAt} {text : List ℕ} {n : ℕ} {si
           on stays bytes bytes_are (sym same) e
           (λ r s noted.
           let before = inv.placed r s (ap (λ z. get_or z r None) (sym p) ∙ noted) in
-          rw (e, sym same) (stands_on out end end_within bytes s _ fits before)) (ap length p)
+          rw (e, sym same) (stands_on out end end_within bytes s _ fits before))
 
     -- or a word, whose rank is smaller
     module _ {r : ℕ} (h : found ≡ Some r) where
@@ -147,17 +141,41 @@ module _ {list : List ℕ} {words : List WordAt} {text : List ℕ} {n : ℕ} {si
       printed = print-pieces (linked_word list words r)
 
       pub word_writable : WritableWord list words n r sizes places out end
-      word_writable =
-          record {
-            below = listed.0;
-            known = inv.known;
-            sizes_long = inv.sizes_long;
-            placed = inv.placed;
-            places_long = inv.places_long;
-            room = omega (arith, roomy listed.1, ap length printed);
-          }
+      word_writable = record { below = listed.0; known = inv.known; placed = inv.placed; room = omega (arith, roomy listed.1, ap length printed) }
 
       pub written_word : {places' : List (Option Span)} {out' : List ℕ} {end' : ℕ} → end' ≡ end + length (print (linked_word list words r))
-          → out' ≡ put_at out end (print (linked_word list words r)) → WordsPlaced list words places' out' end' → length places' ≡ length places
+          → out' ≡ put_at out end (print (linked_word list words r)) → WordsPlaced list words places' out' end'
           → WrittenSoFar list words text n sizes out₀ put places' out' end' rest
-      written_word f e placed as_long = on listed.1 (print (linked_word list words r)) printed f e placed as_long
+      written_word f e placed = on listed.1 (print (linked_word list words r)) printed f e placed
+
+-- .. and what is remembered has a place for each of the words
+pub record WrittenSoFarLong (list : List ℕ) (words : List WordAt) (text : List ℕ) (n : ℕ) (sizes : List (Option Size)) (out₀ : List ℕ) (put : ℕ)
+    (places : List (Option Span)) (out : List ℕ) (end at : ℕ) : Type 0 where
+  pub written : WrittenSoFar list words text n sizes out₀ put places out end at
+  pub sizes_long : n ≤ length sizes
+  pub places_long : n ≤ length places
+
+pub written_first_long : {list : List ℕ} {words : List WordAt} {n : ℕ} {text : List ℕ} {sizes : List (Option Size)} {places : List (Option Span)} {out : List ℕ} {put : ℕ}
+    → WritableLong list words n text sizes places out put → WrittenSoFarLong list words text n sizes out put places out put 0
+written_first_long w = record { written = written_first w.writable; sizes_long = w.sizes_long; places_long = w.places_long }
+
+module _ {list : List ℕ} {words : List WordAt} {text : List ℕ} {n : ℕ} {sizes : List (Option Size)} {out₀ : List ℕ} {put : ℕ} {places : List (Option Span)}
+    {out : List ℕ} {end at : ℕ} (inv : WrittenSoFarLong list words text n sizes out₀ put places out end at) {k : CodePiece} {place rest : ℕ}
+    (passed : Passed text at k place rest inv.written.so_far.ahead.come) {found : Option ℕ}
+    (told : (x : Piece ℕ) → Is text k x → found ≡ seek_piece list words n x) where
+  on_long : {places' : List (Option Span)} {out' : List ℕ} {end' : ℕ} → WrittenSoFar list words text n sizes out₀ put places' out' end' rest
+      → length places' ≡ length places → WrittenSoFarLong list words text n sizes out₀ put places' out' end' rest
+  on_long written as_long = record { written = written; sizes_long = inv.sizes_long; places_long = omega (arith, as_long, inv.places_long) }
+
+  pub written_itself_long : found ≡ None → {places' : List (Option Span)} {out' : List ℕ} {end' : ℕ} → places' ≡ places → end' ≡ end + piece_length k
+      → out' ≡ put_at out end (piece_bytes text k) → WrittenSoFarLong list words text n sizes out₀ put places' out' end' rest
+  written_itself_long h p l e = on_long (written_itself inv.written passed told h p l e) (ap length p)
+
+  module _ {r : ℕ} (h : found ≡ Some r) where
+    pub word_writable_long : WritableWordLong list words n r sizes places out end
+    word_writable_long = record { writable = word_writable inv.written passed told h; sizes_long = inv.sizes_long; places_long = inv.places_long }
+
+    pub written_word_long : {places' : List (Option Span)} {out' : List ℕ} {end' : ℕ} → end' ≡ end + length (print (linked_word list words r))
+        → out' ≡ put_at out end (print (linked_word list words r)) → WordsPlaced list words places' out' end' → length places' ≡ length places
+        → WrittenSoFarLong list words text n sizes out₀ put places' out' end' rest
+    written_word_long f e placed as_long = on_long (written_word inv.written passed told h f e placed) as_long

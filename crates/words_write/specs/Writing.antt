@@ -23,9 +23,7 @@ pub record Writable (list : List ℕ) (words : List WordAt) (n : ℕ) (text : Li
     (out : List ℕ) (put : ℕ) : Type 0 where
   pub reads : Readable text
   pub known : SizesKnown list words sizes
-  pub sizes_long : n ≤ length sizes
   pub placed : WordsPlaced list words places out put
-  pub places_long : n ≤ length places
   pub room : put + length (print (linked_text list words n text)) ≤ length out
 
 -- the word of such a rank can be written
@@ -33,7 +31,18 @@ pub record WritableWord (list : List ℕ) (words : List WordAt) (n rank : ℕ) (
     (out : List ℕ) (put : ℕ) : Type 0 where
   pub below : rank < n
   pub known : SizesKnown list words sizes
-  pub sizes_long : n ≤ length sizes
   pub placed : WordsPlaced list words places out put
-  pub places_long : n ≤ length places
   pub room : put + length (print (linked_word list words rank)) ≤ length out
+
+-- .. and what is remembered has a place for each of these words
+pub record WritableLong (list : List ℕ) (words : List WordAt) (n : ℕ) (text : List ℕ) (sizes : List (Option Size)) (places : List (Option Span))
+    (out : List ℕ) (put : ℕ) : Type 0 where
+  pub writable : Writable list words n text sizes places out put
+  pub sizes_long : n ≤ length sizes
+  pub places_long : n ≤ length places
+
+pub record WritableWordLong (list : List ℕ) (words : List WordAt) (n rank : ℕ) (sizes : List (Option Size)) (places : List (Option Span))
+    (out : List ℕ) (put : ℕ) : Type 0 where
+  pub writable : WritableWord list words n rank sizes places out put
+  pub sizes_long : n ≤ length sizes
+  pub places_long : n ≤ length places

@@ -11,7 +11,7 @@ ghost use Rattle.words_meaning.specs.Stock.{word_limit};
 ghost use Rattle.words_shelf.specs.declared.WordAt.{WordAt};
 ghost use Rattle.words_shelf.specs.Shelf.{Readable, linked_text, linked_word};
 ghost use Rattle.words_measure.specs.Sizes.{SizesKnown};
-ghost use Rattle.words_write.specs.Writing.{WordsPlaced, Writable, WritableWord, WrittenBefore};
+ghost use Rattle.words_write.specs.Writing.{WordsPlaced, WritableLong, WritableWordLong, WrittenBefore};
 
 use items::{Placed, Walk};
 use pieces::{Piece, put_piece};
@@ -65,7 +65,7 @@ fn write_word(
     out: &mut [u8],
     put: usize,
 ) -> usize
-    requires { WritableWord shelf.now.list.now shelf.now.words.now shelf.now.below word sizes.now places.old out.old put }
+    requires { WritableWordLong shelf.now.list.now shelf.now.words.now shelf.now.below word sizes.now places.old out.old put }
     ensures behind { result ≡ put + length (print (linked_word shelf.now.list.now shelf.now.words.now word)) }
     ensures written { out.new ≡ put_at out.old put (print (linked_word shelf.now.list.now shelf.now.words.now word)) }
     ensures placed { WordsPlaced shelf.now.list.now shelf.now.words.now places.new out.new result }
@@ -100,7 +100,7 @@ pub fn write_text(
     out: &mut [u8],
     put: usize,
 ) -> usize
-    requires { Writable shelf.now.list.now shelf.now.words.now shelf.now.below text.now sizes.now places.old out.old put }
+    requires { WritableLong shelf.now.list.now shelf.now.words.now shelf.now.below text.now sizes.now places.old out.old put }
     ensures behind { result ≡ put + length (print (linked_text shelf.now.list.now shelf.now.words.now shelf.now.below text.now)) }
     ensures written { out.new ≡ put_at out.old put (print (linked_text shelf.now.list.now shelf.now.words.now shelf.now.below text.now)) }
     ensures placed { WordsPlaced shelf.now.list.now shelf.now.words.now places.new out.new result }

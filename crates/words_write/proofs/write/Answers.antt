@@ -6,10 +6,8 @@ use Rattle.words_write.proofs.write.Goals as goal
 pub write_text-requires : goal.write_text-requires
 write_text-requires c =
     record {
-      reads = c.requires.reads;
-      known = c.requires.known;
+      writable =
+          record { reads = c.requires.reads; known = c.requires.known; placed = λ r s e. noted_nothing 256 r e; room = omega (arith, c.requires.room) };
       sizes_long = c.requires.long;
-      placed = λ r s e. noted_nothing 256 r e;
       places_long = c.requires.few;
-      room = omega (arith, c.requires.room);
     }
