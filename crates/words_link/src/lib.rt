@@ -18,7 +18,8 @@ use words_measure::{Sizes, measure};
 use words_shelf::{NO_WORD, Shelf, Words};
 use words_write::write;
 
-// A shelf with a place for each word that a list may have, and no more words than these. A shelf alone may be of any length.
+// A shelf that a list of stock words can have: of 256 places, and of no more words. A `Shelf` may have any number of both, so who is lent one
+// would have to ask for this again.
 #[derive(Clone, Copy)]
 pub struct StockShelf<'a> {
     pub shelf: Shelf<'a>,
@@ -50,6 +51,7 @@ pub fn link(list: &[u8], text: &[u8], output: &mut [u8]) -> Result<Size, LinkRef
 {
     let mut words: Words = [NO_WORD; MOST];
     let shelf = check_list(list, &mut words)?;
+    // Each list that links has one. Here that is proved.
     let stock = StockShelf { shelf };
     // With no room every item is past it. How many items there are does not matter before the text is linked.
     survey_text(text, 0)?;
